@@ -1,0 +1,57 @@
+// MCT gates: a NOT with any number of controls.
+ghost use Rattle.gates.specs.Mcts.{mct, mct-probes};
+use crate::gate::Gate;
+use crate::probed::Probed;
+use words::flipped;
+use words::has_bit;
+use words::is_word;
+
+// Flips the target bit where every control bit is 1. Line i is a control where bit i of `controls` is 1.
+#[derive(Clone, Copy, PartialEq, Eq, Debug)]
+pub struct Mct {
+    pub controls: u8,
+    pub target: u8,
+}
+
+pub impl Gate for Mct as MctGate {
+    ghost kind = { mct };
+
+    fn max_lines() -> u8 {
+        8
+    }
+
+    fn is_legal(self, n: u8) -> bool {
+        let controls = self.controls as u64;
+        1 <= n
+            && n <= 8
+            && is_word(n, controls)
+            && self.target < n
+            && !has_bit(controls, self.target)
+    }
+
+    fn act(self, n: u8, word: u64) -> u64 {
+        let controls = self.controls as u64;
+        if self.is_legal(n) && is_word(n, word) && word & controls == controls {
+            flipped(word, self.target)
+        } else {
+            word
+        }
+    }
+
+    fn equals(self, other: Mct) -> bool {
+        self.controls == other.controls && self.target == other.target
+    }
+}
+
+// On eight lines at most, every word is tried.
+pub impl Probed for Mct as MctProbed {
+    ghost probes = { mct-probes };
+
+    fn probe_count(n: u8) -> u16 {
+        if n <= 8 { 1 << n } else { 0 }
+    }
+
+    fn probe(at: u16) -> u64 {
+        at as u64
+    }
+}

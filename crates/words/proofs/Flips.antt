@@ -1,0 +1,50 @@
+-- What a word keeps when one of its bits is flipped, and how shifts and masks tell a word's bits.
+use mathlib.Core.Path.{_≡_, refl, sym, ap, subst, _∙_}
+use mathlib.Core.Logic.{⊎-elim}
+use mathlib.Core.Bool.{cond}
+use Prim.Native.Nat.{ℕ, _+_, _/_, _%_, _^_, _<_, _≤_, min}
+use native.Mathlib.Nat.{div-eq-of-lt, lt-of-lt-of-le, pow-le-pow-right}
+use native.Mathlib.Omega.{arith}
+use lib.Bits.{bitAnd, bitXor, and-mask, xor-assoc, xor-self, xor-zero-r}
+use lib.Dec.{eqb, ltb, lit<}
+use Rattle.std.proofs.shelf.Bits.{le-div, pow-pos}
+use Rattle.std.proofs.shelf.Tests.{cases-lt, cases-eq, cond-true, eq-eqb, ne-eqb, lt-ltb, le-ltb}
+use Rattle.words.specs.Words.{bit, has, unit}
+use Rattle.words.proofs.Bits.{bit-lt, bit-xor, bit-and, bit-power-other, same-bits}
+
+-- a flip changes no other bit
+pub flip-other : (w t i : ℕ) → (i ≡ t → ⊥) → bit (bitXor w (2 ^ t)) i ≡ bit w i
+flip-other w t i ne = omega (arith, bit-xor w (2 ^ t) i, bit-power-other t i ne)
+
+pub flip-twice : (w v : ℕ) → bitXor (bitXor w v) v ≡ w
+flip-twice w v = xor-assoc w v v ∙ ap (bitXor w) (xor-self v) ∙ xor-zero-r w
+
+-- a mask that lacks a bit does not see it flipped
+pub mask-flip : (w m t : ℕ) → bit m t ≡ 0 → bitAnd (bitXor w (2 ^ t)) m ≡ bitAnd w m
+mask-flip w m t lacks =
+    same-bits _ _ (λ i.
+    bit-and (bitXor w (2 ^ t)) m i
+    ∙ ⊎-elim
+    (λ e. let z : bit m i ≡ 0 = ap (bit m) e ∙ lacks in omega arith)
+    (λ ne. ap (λ (b : ℕ). min b (bit m i)) (flip-other w t i ne))
+    (cases-eq i t)
+    ∙ sym (bit-and w m i))
+
+-- whether a number is a word on n lines, as a shift tells
+pub shift-word : (n w : ℕ) → eqb (w / 2 ^ n) 0 ≡ ltb w (2 ^ n)
+shift-word n w =
+    ⊎-elim (λ h. eq-eqb (w / 2 ^ n) 0 (div-eq-of-lt h) ∙ sym (lt-ltb w (2 ^ n) h))
+    (λ h.
+    let k : 1 ≤ w / 2 ^ n = le-div 1 w (2 ^ n) (pow-pos n) (omega arith) in
+    ne-eqb (w / 2 ^ n) 0 (λ z. omega arith) ∙ sym (le-ltb w (2 ^ n) h))
+    (cases-lt w (2 ^ n))
+
+pub wide-word : (n w : ℕ) → 64 ≤ n → w < 2 ^ 64 → w < 2 ^ n
+wide-word n w h k = lt-of-lt-of-le k (pow-le-pow-right (lit< tt) h)
+
+-- a bit as a mask by 1 tells it
+pub mask-bit : (w i : ℕ) → eqb (bitAnd (w / 2 ^ i) 1) 1 ≡ has w i
+mask-bit w i = ap (λ (b : ℕ). eqb b 1) (and-mask (w / 2 ^ i) 1)
+
+pub unit-power : (i : ℕ) → i < 64 → unit i ≡ 2 ^ i
+unit-power i h = cond-true (ltb i 64) (2 ^ i) 0 (lt-ltb i 64 h)

@@ -1,0 +1,3 @@
+pub mod Bits
+pub mod Flips
+pub mod Units
