@@ -1,10 +1,12 @@
 -- What a canceller's held gate does.
 use mathlib.Core.Path.{_≡_}
-use Prim.Native.Nat.{ℕ, _-_}
+use mathlib.Core.Bool.{true}
+use Prim.Native.Nat.{ℕ, _-_, _≤_}
 use Rattle.std.specs.declared.option.Option.{Option}
 use Rattle.std.specs.declared.option.Option.the-variants.{Some, None}
 use Rattle.std.specs.declared.result.Result.{Result}
 use Rattle.std.specs.declared.result.Result.the-variants.{Ok}
+use Rattle.words.specs.Maps.{Same}
 use Rattle.gates.specs.declared.refusal.Refusal.{Refusal}
 use Rattle.gates.specs.Gates.{Kind}
 use Rattle.takers.specs.Meanings.{Meaning, accept, Fed}
@@ -43,3 +45,13 @@ module _ {T G : Type 0} (K : Kind G) (below : T → Meaning) where
     | None ↦ (c′ .held ≡ Some g) × (c′ .below ≡ c .below)
     | Some h ↦ (h ≡ g → (c′ .held ≡ None) × (c′ .below ≡ c .below)) × ((h ≡ g → ⊥) → (c′ .held ≡ Some g) × Fed K (below (c .below)) h (below (c′ .below)))
   ]
+
+  -- The held gate, if any, would be taken below.
+  abbrev pub Sendable : Canceller T G → Type 0
+  Sendable c = elim (c .held) [ None ↦ Unit {0} | Some g ↦ (K .legal (below (c .below) .lines) g ≡ true) × (1 ≤ below (c .below) .free) ]
+
+-- The same map on the same lines, and no place fewer.
+pub record Finished (m m′ : Meaning) : Type 0 where
+  pub same-lines : m′ .lines ≡ m .lines
+  pub same-map : Same (m .lines) (m′ .map) (m .map)
+  pub room : m .free ≤ m′ .free

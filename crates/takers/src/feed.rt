@@ -16,6 +16,15 @@ pub fn feed<G: Gate, T: Taker<G>>(gates: &[G], taker: &mut T) -> Result<(), Refu
     ensures answer { λ r. ⌜ r ≡ accept-all (G·Gate .kind) (T·Taker .meaning (now (taker .entry))) (now (gates .entry)) ⌝ }
     ensures after { λ r. ⌜ Cases r (λ _. FedAll (G·Gate .kind) (T·Taker .meaning (now (taker .entry))) (now (gates .entry)) (T·Taker .meaning (now (taker .exit)))) (λ _. now (taker .exit) ≡ now (taker .entry)) ⌝ }
 {
+    accepts(gates, taker)?;
+    feed_all(gates, taker);
+    Ok(())
+}
+
+// Whether a taker is sure to take all gates.
+pub fn accepts<G: Gate, T: Taker<G>>(gates: &[G], taker: &T) -> Result<(), Refusal>
+    ensures { λ r. ⌜ r ≡ accept-all (G·Gate .kind) (T·Taker .meaning (now (taker .entry))) (now (gates .entry)) ⌝ }
+{
     if !circuit::all_legal(gates, taker.lines()) {
         return Err(Refusal::IllegalGate);
     }
@@ -24,7 +33,6 @@ pub fn feed<G: Gate, T: Taker<G>>(gates: &[G], taker: &mut T) -> Result<(), Refu
     if free < needed {
         return Err(Refusal::TooFewPlaces { needed, free });
     }
-    feed_all(gates, taker);
     Ok(())
 }
 
