@@ -2,6 +2,7 @@
 ghost use Rattle.gates.specs.Cnots.{cnot, cnot-probes};
 use crate::gate::Gate;
 use crate::probed::Probed;
+use std::fmt;
 use words::flipped;
 use words::has_bit;
 use words::is_word;
@@ -48,5 +49,14 @@ pub impl Probed for Cnot as CnotProbed {
 
     fn probe(at: u16) -> u64 {
         if at < 64 { unit(at as u8) } else { 0 }
+    }
+}
+
+// As (control, target).
+pub impl fmt::Display for Cnot as CnotDisplay {
+    fn fmt<W: fmt::Write>(&self, f: &mut fmt::Formatter<W>) -> fmt::Result {
+        let control = self.control;
+        let target = self.target;
+        write!(f, "({control}, {target})")
     }
 }

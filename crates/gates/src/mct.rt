@@ -2,6 +2,7 @@
 ghost use Rattle.gates.specs.Mcts.{mct, mct-probes};
 use crate::gate::Gate;
 use crate::probed::Probed;
+use std::fmt;
 use words::flipped;
 use words::has_bit;
 use words::is_word;
@@ -53,5 +54,19 @@ pub impl Probed for Mct as MctProbed {
 
     fn probe(at: u16) -> u64 {
         at as u64
+    }
+}
+
+// As (controls -> target), as in (0 2 -> 1) and, without a control, (-> 1).
+pub impl fmt::Display for Mct as MctDisplay {
+    fn fmt<W: fmt::Write>(&self, f: &mut fmt::Formatter<W>) -> fmt::Result {
+        write!(f, "(")?;
+        for line in 0..8u8 {
+            if has_bit(self.controls as u64, line) {
+                write!(f, "{line} ")?;
+            }
+        }
+        let target = self.target;
+        write!(f, "-> {target})")
     }
 }

@@ -1,6 +1,7 @@
 // Why a call declines.
 ghost use mathlib.Core.Path.{_≡_};
 ghost use Rattle.gates.specs.Refusals.{number};
+use std::fmt;
 
 #[derive(Clone, Copy, PartialEq, Eq, Debug)]
 pub enum Refusal {
@@ -48,6 +49,28 @@ impl Refusal {
             Refusal::NotIdentity => 10,
             Refusal::TooFewPlaces { needed: _, free: _ } => 11,
             Refusal::AnswerTooLong => 12,
+        }
+    }
+}
+
+// The reason in words, for a laboratory's log.
+pub impl fmt::Display for Refusal as RefusalDisplay {
+    fn fmt<W: fmt::Write>(&self, f: &mut fmt::Formatter<W>) -> fmt::Result {
+        match *self {
+            Refusal::WrongForm => write!(f, "the sheet or a line of it is not of its form"),
+            Refusal::WrongContents => write!(f, "a contents line is wrong"),
+            Refusal::WrongSize => write!(f, "the number of lines or of rows is wrong"),
+            Refusal::WideRow { row } => write!(f, "row {row} is too large for the lines"),
+            Refusal::WideWord => write!(f, "the word is too large for the lines"),
+            Refusal::LinesDiffer => write!(f, "the numbers of lines differ"),
+            Refusal::IllegalGate => write!(f, "a gate is illegal on these lines"),
+            Refusal::SharedImage { a, b } => write!(f, "the words {a} and {b} share an image"),
+            Refusal::NothingFound => write!(f, "this end has nothing to take back"),
+            Refusal::NotIdentity => write!(f, "the piece is short of identity"),
+            Refusal::TooFewPlaces { needed, free } => {
+                write!(f, "{needed} places are needed and {free} are free")
+            }
+            Refusal::AnswerTooLong => write!(f, "the answer does not fit"),
         }
     }
 }

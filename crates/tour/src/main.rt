@@ -1,0 +1,72 @@
+// A tour of what is built: each task is done on values that a laboratory might send, and accounted for in print.
+mod shortening;
+
+use gates::cnot::Cnot;
+use gates::cnot::CnotDisplay;
+use gates::cnot::CnotProbed;
+use gates::mct::Mct;
+use gates::mct::MctDisplay;
+use gates::mct::MctProbed;
+use shortening::shorten_and_tell;
+use std::io;
+
+fn main(rt: LibcRuntime) -> io::Result<()> {
+    shorten_cnots(&rt)?;
+    shorten_mcts(&rt)?;
+    shorten_on_many_lines(&rt)?;
+    be_declined(&rt)
+}
+
+fn cnot(control: u8, target: u8) -> Cnot {
+    Cnot { control, target }
+}
+
+fn mct(controls: u8, target: u8) -> Mct {
+    Mct { controls, target }
+}
+
+fn shorten_cnots(rt: &impl Print) -> io::Result<()> {
+    println!(rt, "CNOT gates on 3 lines are shortened.")?;
+    let gates = [
+        cnot(2, 0),
+        cnot(0, 1),
+        cnot(1, 2),
+        cnot(1, 2),
+        cnot(0, 1),
+        cnot(0, 2),
+        cnot(1, 2),
+    ];
+    shorten_and_tell(rt, 3, &gates, &mut [cnot(0, 0); 7], &mut [cnot(0, 0); 7])
+}
+
+fn shorten_mcts(rt: &impl Print) -> io::Result<()> {
+    println!(rt, "MCT gates on 3 lines are shortened.")?;
+    let gates = [
+        mct(0b000, 0),
+        mct(0b011, 2),
+        mct(0b011, 2),
+        mct(0b101, 1),
+        mct(0b010, 0),
+    ];
+    shorten_and_tell(rt, 3, &gates, &mut [mct(0, 0); 5], &mut [mct(0, 0); 5])
+}
+
+fn shorten_on_many_lines(rt: &impl Print) -> io::Result<()> {
+    println!(rt, "CNOT gates on 12 lines are shortened.")?;
+    let gates = [cnot(0, 11), cnot(11, 1), cnot(11, 1), cnot(1, 0)];
+    shorten_and_tell(rt, 12, &gates, &mut [cnot(0, 0); 4], &mut [cnot(0, 0); 4])
+}
+
+fn be_declined(rt: &impl Print) -> io::Result<()> {
+    println!(rt, "No CNOT gates are shortened on 65 lines.")?;
+    let gates = [cnot(0, 1)];
+    shorten_and_tell(rt, 65, &gates, &mut [cnot(0, 0); 1], &mut [cnot(0, 0); 1])?;
+
+    println!(rt, "A gate is illegal on 3 lines.")?;
+    let gates = [cnot(0, 1), cnot(0, 3)];
+    shorten_and_tell(rt, 3, &gates, &mut [cnot(0, 0); 2], &mut [cnot(0, 0); 2])?;
+
+    println!(rt, "Three gates want more than two places.")?;
+    let gates = [cnot(0, 1), cnot(1, 0), cnot(0, 1)];
+    shorten_and_tell(rt, 3, &gates, &mut [cnot(0, 0); 2], &mut [cnot(0, 0); 2])
+}
