@@ -1,13 +1,12 @@
 -- Circuits: whether their gates are legal, and what they make of words.
-use mathlib.Core.Path.{_≡_, refl, sym, ap, _∙_}
+use mathlib.Core.Path.{_≡_, refl, sym, ap, ap₂, _∙_}
 use mathlib.Core.List.{List, [], _∷_, _++_, reverse, reverse-cons}
 use mathlib.Core.Bool.{Bool, true, false, _&&_, and-assoc, and-comm, and-true}
-use mathlib.Core.Logic.{⊎-elim}
 use Prim.Native.Nat.{ℕ, zero, suc, _+_, _^_, _<_}
 use native.Mathlib.Omega.{arith}
 use lib.ListN.{length, take, getD}
 use Rattle.std.proofs.shelf.Lists.{take-more}
-use Rattle.std.proofs.shelf.Tests.{and-from, and-parts, cases-bool, true≢false}
+use Rattle.std.proofs.shelf.Tests.{and-parts}
 use Rattle.gates.specs.Gates.{Kind, Lawful}
 use Rattle.gates.specs.Circuits.{through, all-legal}
 
@@ -33,16 +32,14 @@ module _ {G : Type 0} (K : Kind G) (n : ℕ) where
   through-more gs i g x y z h is before next =
       next ∙ ap (K .act n g) before ∙ sym (ap (λ l. through K n l x) (take-next gs i g h is) ∙ through-append (take i gs) (g ∷ []) x)
 
-  pub legal-more : (gs : List G) (i : ℕ) (g : G) → i < length gs → g ≡ getD gs i g → all-legal K n (take i gs) ≡ true → K .legal n g ≡ true → all-legal K n (take (i + 1) gs) ≡ true
-  legal-more gs i g h is before next = ap (all-legal K n) (take-next gs i g h is) ∙ legal-push (take i gs) g ∙ and-from _ _ before next
+  pub legal-more : (gs : List G) (i : ℕ) (g : G) (sofar here : Bool) → i < length gs → g ≡ getD gs i g → sofar ≡ all-legal K n (take i gs) → here ≡ K .legal n g → (sofar && here) ≡ all-legal K n (take (i + 1) gs)
+  legal-more gs i g sofar here h is before next =
+      ap₂ _&&_ before next ∙ sym (ap (all-legal K n) (take-next gs i g h is) ∙ legal-push (take i gs) g)
 
   pub legal-at : (gs : List G) (i : ℕ) (g : G) → i < length gs → g ≡ getD gs i g → all-legal K n gs ≡ true → K .legal n g ≡ true
   legal-at [] i g h is all = absurd (omega arith)
   legal-at (x ∷ gs) zero g h is all = ap (K .legal n) is ∙ and-parts (K .legal n x) (all-legal K n gs) all .0
   legal-at (x ∷ gs) (suc i) g h is all = legal-at gs i g (omega arith) is (and-parts (K .legal n x) (all-legal K n gs) all .1)
-
-  pub legal-not : (gs : List G) (i : ℕ) (g : G) → i < length gs → g ≡ getD gs i g → K .legal n g ≡ false → all-legal K n gs ≡ false
-  legal-not gs i g h is e = ⊎-elim (λ all. absurd (true≢false (sym (legal-at gs i g h is all) ∙ e))) (λ some. some) (cases-bool (all-legal K n gs))
 
   -- where no gate is legal, every word stays
   pub through-idle : Lawful K → ((g : G) → K .legal n g ≡ false) → (xs : List G) (x : ℕ) → through K n xs x ≡ x

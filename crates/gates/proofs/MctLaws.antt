@@ -45,7 +45,7 @@ mct-lawful =
 
 -- ---- all words tell
 
-pub count-few : (n : ℕ) → n ≤ 8 → mct-probes .count n ≡ 2 ^ n
+count-few : (n : ℕ) → n ≤ 8 → mct-probes .count n ≡ 2 ^ n
 count-few n h = cond-true (leb n 8) (2 ^ n) 0 (le-leb n 8 h)
 
 count-many : (n : ℕ) → 8 < n → mct-probes .count n ≡ 0

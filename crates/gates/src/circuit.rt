@@ -10,12 +10,11 @@ use crate::probed::Probed;
 pub fn all_legal<G: Gate>(gates: &[G], n: u8) -> bool
     ensures { λ r. ⌜ r ≡ all-legal (G·Gate .kind) n (now (gates .entry)) ⌝ }
 {
+    let mut legal = true;
     for gate in gates {
-        if !gate.is_legal(n) {
-            return false;
-        }
+        legal &= gate.is_legal(n);
     }
-    true
+    legal
 }
 
 // What the gates make of a word on n lines.

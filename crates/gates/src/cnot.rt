@@ -1,4 +1,5 @@
 // CNOT gates: one control and one target.
+ghost use mathlib.Core.Path.{_≡_};
 ghost use Rattle.gates.specs.Cnots.{cnot, cnot-probes};
 use crate::gate::Gate;
 use crate::probed::Probed;
@@ -44,12 +45,19 @@ pub impl Probed for Cnot as CnotProbed {
     ghost probes = { cnot-probes };
 
     fn probe_count(n: u8) -> u16 {
-        if n <= 64 { n as u16 } else { 0 }
+        unit_count(n)
     }
 
     fn probe(at: u16) -> u64 {
         if at < 64 { unit(at as u8) } else { 0 }
     }
+}
+
+// One unit word for each line, and none on more lines than a gate is legal on.
+fn unit_count(n: u8) -> u16
+    ensures { λ r. ⌜ r ≡ cnot-probes .count n ⌝ }
+{
+    if n <= 64 { n as u16 } else { 0 }
 }
 
 // As (control, target).

@@ -1,4 +1,5 @@
 // MCT gates: a NOT with any number of controls.
+ghost use mathlib.Core.Path.{_≡_};
 ghost use Rattle.gates.specs.Mcts.{mct, mct-probes};
 use crate::gate::Gate;
 use crate::probed::Probed;
@@ -49,12 +50,19 @@ pub impl Probed for Mct as MctProbed {
     ghost probes = { mct-probes };
 
     fn probe_count(n: u8) -> u16 {
-        if n <= 8 { 1 << n } else { 0 }
+        word_count(n)
     }
 
     fn probe(at: u16) -> u64 {
         at as u64
     }
+}
+
+// How many words there are, and none on more lines than a gate is legal on.
+fn word_count(n: u8) -> u16
+    ensures { λ r. ⌜ r ≡ mct-probes .count n ⌝ }
+{
+    if n <= 8 { 1 << n } else { 0 }
 }
 
 // As (controls -> target), as in (0 2 -> 1) and, without a control, (-> 1).

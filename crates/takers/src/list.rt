@@ -1,9 +1,11 @@
 // The gate list: a taker that keeps its gates in the caller's memory.
 ghost use mathlib.Core.Path.{_≡_};
+ghost use Prim.Native.Nat.{_<_};
+ghost use lib.ListN.{length};
 ghost use Rattle.std.specs.Results.{Cases};
 ghost use Rattle.gates.specs.Refusals.{image};
 ghost use Rattle.takers.specs.Meanings.{accept, Fed};
-ghost use Rattle.takers.specs.GateLists.{held, list-meaning, fresh, restarted, restarts, Pushed, SameMap};
+ghost use Rattle.takers.specs.GateLists.{held, list-meaning, fresh, restarted, restarts, with-gate, Pushed, SameMap};
 use crate::taker::Taker;
 use gates::circuit;
 use gates::gate::Gate;
@@ -48,8 +50,11 @@ impl<'a, G: Gate> GateList<'a, G> {
     pub fn gates(&self) -> &[G]
         ensures { λ r. ⌜ now r ≡ held (now (self .entry)) ⌝ }
     {
-        let end = self.used.min(self.places.len());
-        &self.places[0..end]
+        if self.used < self.places.len() {
+            &self.places[0..self.used]
+        } else {
+            self.places
+        }
     }
 
     // What the gates make of a word.
@@ -94,12 +99,22 @@ pub impl<'a, G: Gate> Taker<G> for GateList<'a, G> as GateListTaker {
         if !gate.is_legal(self.lines) {
             return Err(Refusal::IllegalGate);
         }
-        let free = self.places.len().saturating_sub(self.used);
+        let free = self.free();
         if free < 1 {
             return Err(Refusal::TooFewPlaces { needed: 1, free });
         }
+        self.push(gate);
+        Ok(())
+    }
+}
+
+impl<'a, G: Gate> GateList<'a, G> {
+    // Writes a gate at the first unused place.
+    fn push(&mut self, gate: G)
+        requires { ⌜ now self .used < length (now (now self .places)) ⌝ }
+        ensures { λ _. ⌜ now (self .exit) ≡ with-gate gate (now (self .entry)) ⌝ }
+    {
         self.places[self.used] = gate;
         self.used += 1;
-        Ok(())
     }
 }

@@ -1,4 +1,4 @@
--- What a word keeps when one of its bits is flipped, and how shifts and masks tell a word's bits.
+-- What a word keeps when one of its bits is flipped, and words of 64 bits.
 use mathlib.Core.Path.{_≡_, refl, sym, ap, subst, _∙_}
 use mathlib.Core.Logic.{⊎-elim}
 use mathlib.Core.Bool.{cond}
@@ -30,21 +30,9 @@ mask-flip w m t lacks =
     (cases-eq i t)
     ∙ sym (bit-and w m i))
 
--- whether a number is a word on n lines, as a shift tells
-pub shift-word : (n w : ℕ) → eqb (w / 2 ^ n) 0 ≡ ltb w (2 ^ n)
-shift-word n w =
-    ⊎-elim (λ h. eq-eqb (w / 2 ^ n) 0 (div-eq-of-lt h) ∙ sym (lt-ltb w (2 ^ n) h))
-    (λ h.
-    let k : 1 ≤ w / 2 ^ n = le-div 1 w (2 ^ n) (pow-pos n) (omega arith) in
-    ne-eqb (w / 2 ^ n) 0 (λ z. omega arith) ∙ sym (le-ltb w (2 ^ n) h))
-    (cases-lt w (2 ^ n))
-
+-- every word of 64 bits is one on 64 lines and more
 pub wide-word : (n w : ℕ) → 64 ≤ n → w < 2 ^ 64 → w < 2 ^ n
 wide-word n w h k = lt-of-lt-of-le k (pow-le-pow-right (lit< tt) h)
-
--- a bit as a mask by 1 tells it
-pub mask-bit : (w i : ℕ) → eqb (bitAnd (w / 2 ^ i) 1) 1 ≡ has w i
-mask-bit w i = ap (λ (b : ℕ). eqb b 1) (and-mask (w / 2 ^ i) 1)
 
 pub unit-power : (i : ℕ) → i < 64 → unit i ≡ 2 ^ i
 unit-power i h = cond-true (ltb i 64) (2 ^ i) 0 (lt-ltb i 64 h)

@@ -9,14 +9,14 @@ ghost use Rattle.words.specs.Words.{has, unit};
 pub fn is_word(n: u8, word: u64) -> bool
     ensures { λ r. ⌜ r ≡ ltb word (2 ^ n) ⌝ }
 {
-    n >= 64 || word >> n == 0
+    n >= 64 || word < unit(n)
 }
 
 // Whether the bit of a line is 1. A word has no line past 63.
 pub fn has_bit(word: u64, line: u8) -> bool
     ensures { λ r. ⌜ r ≡ has word line ⌝ }
 {
-    line < 64 && word >> line & 1 == 1
+    line < 64 && (word >> line) % 2 == 1
 }
 
 // The word in which a line alone is 1, or 0 past line 63.

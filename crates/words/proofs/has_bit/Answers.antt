@@ -3,11 +3,7 @@ use Prim.Native.Nat.{ℕ}
 use lib.Dec.{eqb}
 use Rattle.std.proofs.shelf.Tests.{le-ltb}
 use Rattle.words.proofs.Bits.{bit-above}
-use Rattle.words.proofs.Flips.{mask-bit}
 use Rattle.words.proofs.has_bit.Needs as need
-
-pub returns-then-line-lt64 : need.returns-then-line-lt64
-returns-then-line-lt64 c = mask-bit (c .args .word) (c .args .line)
 
 pub returns-else-line-lt64 : need.returns-else-line-lt64
 returns-else-line-lt64 c =

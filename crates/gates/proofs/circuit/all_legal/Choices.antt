@@ -1,8 +1,7 @@
 use mathlib.Core.Path.{_≡_}
-use mathlib.Core.Bool.{true}
 use lib.ListN.{take}
 use Rattle.gates.specs.Circuits.{all-legal}
 use Rattle.gates.proofs.circuit.all_legal.Given as given
 
 abbrev pub Inv-loop-gate : given.InvT-loop-gate
-Inv-loop-gate g l = all-legal (g .G·Gate .kind) (l .n) (take (l .gate-index) (l .gates)) ≡ true
+Inv-loop-gate g l = l .legal ≡ all-legal (g .G·Gate .kind) (l .n) (take (l .gate-index) (l .gates))
