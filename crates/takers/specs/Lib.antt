@@ -1,3 +1,4 @@
 pub mod Meanings
 pub mod GateLists
 pub mod Cancellers
+pub mod Folds

@@ -1,0 +1,2 @@
+// Tables of images as pieces that take gates of any kind.
+pub mod table;
