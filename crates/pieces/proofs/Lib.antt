@@ -1,2 +1,2 @@
+pub mod Fits
 pub mod RowLaws
-pub mod Narrow

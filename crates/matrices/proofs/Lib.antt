@@ -1,0 +1,11 @@
+pub mod Additions
+pub mod Bases
+pub mod Clearings
+pub mod Ends
+pub mod Held
+pub mod Identities
+pub mod Images
+pub mod Inverses
+pub mod Puts
+pub mod Turns
+pub mod UnitRows

@@ -1,0 +1,4 @@
+pub mod Columns
+pub mod Matrices
+pub mod Meanings
+pub mod Solving

@@ -1,0 +1,2 @@
+// Matrices of bits as pieces that take CNOT gates.
+pub mod matrix;
