@@ -9,6 +9,8 @@ mod make;
 mod piece;
 mod rows;
 
+pub use piece::MatrixPiece;
+
 // Entry (r, c) is bit c of row word r. Only the first `lines` rows count.
 #[derive(Clone, Copy)]
 pub struct Matrix {

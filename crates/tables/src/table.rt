@@ -7,6 +7,8 @@ mod images;
 mod make;
 mod piece;
 
+pub use piece::TablePiece;
+
 // Only the first 2^lines images count.
 #[derive(Clone, Copy)]
 pub struct Table {

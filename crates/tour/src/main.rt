@@ -1,6 +1,11 @@
 // A tour of what is built: each task is done on values that a laboratory might send, and accounted for in print.
+mod folding;
 mod shortening;
+mod telling;
 
+use folding::tell_clash;
+use folding::tell_matrix;
+use folding::tell_table;
 use gates::cnot::Cnot;
 use gates::cnot::CnotDisplay;
 use gates::cnot::CnotProbed;
@@ -14,7 +19,9 @@ fn main(rt: LibcRuntime) -> io::Result<()> {
     shorten_cnots(&rt)?;
     shorten_mcts(&rt)?;
     shorten_on_many_lines(&rt)?;
-    be_declined(&rt)
+    be_declined(&rt)?;
+    fold_gates(&rt)?;
+    look_for_clashes(&rt)
 }
 
 fn cnot(control: u8, target: u8) -> Cnot {
@@ -69,4 +76,23 @@ fn be_declined(rt: &impl Print) -> io::Result<()> {
     println!(rt, "Three gates want more than two places.")?;
     let gates = [cnot(0, 1), cnot(1, 0), cnot(0, 1)];
     shorten_and_tell(rt, 3, &gates, &mut [cnot(0, 0); 2], &mut [cnot(0, 0); 2])
+}
+
+fn fold_gates(rt: &impl Print) -> io::Result<()> {
+    println!(rt, "CNOT gates on 3 lines become a matrix.")?;
+    tell_matrix(rt, 3, &[cnot(2, 0), cnot(0, 1), cnot(1, 2)])?;
+
+    println!(rt, "MCT gates on 3 lines become a table.")?;
+    tell_table(rt, 3, &[mct(0b000, 0), mct(0b101, 1), mct(0b010, 0)])
+}
+
+fn look_for_clashes(rt: &impl Print) -> io::Result<()> {
+    println!(rt, "A matrix on 2 lines has a clash.")?;
+    tell_clash(rt, 2, &[0b11, 0b11])?;
+
+    println!(rt, "A matrix on 3 lines has none.")?;
+    tell_clash(rt, 3, &[0b111, 0b110, 0b100])?;
+
+    println!(rt, "A row is too large for 2 lines.")?;
+    tell_clash(rt, 2, &[0b11, 0b100])
 }

@@ -4,10 +4,11 @@ ghost use Rattle.std.specs.Vec.{made};
 ghost use Rattle.words.specs.Maps.{Same};
 ghost use Rattle.gates.specs.Circuits.{through};
 ghost use Rattle.takers.specs.GateLists.{list-meaning};
+use crate::telling::print_gates;
+use crate::telling::print_refusal;
 use gates::gate::Gate;
 use gates::probed::Probed;
 use gates::refusal::Refusal;
-use gates::refusal::RefusalDisplay;
 use std::fmt;
 use std::io;
 use takers::feed::feed;
@@ -72,15 +73,6 @@ fn shortened<'a, G: Gate>(
     Ok(list)
 }
 
-fn print_gates<G: Gate + fmt::Display>(rt: &impl Print, what: &str, gates: &[G]) -> io::Result<()> {
-    let count = gates.len();
-    print!(rt, "  {what} {count}:")?;
-    for gate in gates {
-        print!(rt, " {gate}")?;
-    }
-    println!(rt, "")
-}
-
 fn print_images<G: Gate>(rt: &impl Print, list: &GateList<G>) -> io::Result<()> {
     let n = list.lines();
     if n <= FEW_LINES {
@@ -100,9 +92,4 @@ fn print_image<G: Gate>(rt: &impl Print, list: &GateList<G>, word: u64) -> io::R
         Ok(image) => println!(rt, "  {word} becomes {image}"),
         Err(why) => print_refusal(rt, why),
     }
-}
-
-fn print_refusal(rt: &impl Print, why: Refusal) -> io::Result<()> {
-    let number = why.number();
-    println!(rt, "  declined by {number}: {why}")
 }

@@ -12,7 +12,7 @@ ghost use Rattle.matrices.specs.Meanings.{rows-of, matrix-meaning};
 use super::Matrix;
 use super::rows::add_column;
 use super::rows::add_row;
-use super::rows::is_unit;
+use super::rows::are_units;
 use super::rows::shared;
 use gates::cnot::Cnot;
 use gates::cnot::CnotGate;
@@ -37,12 +37,7 @@ pub impl Piece<Cnot> for Matrix as MatrixPiece {
 
     // Whether the rows are the unit rows.
     fn is_identity(&self) -> bool {
-        for r in 0..self.lines {
-            if !is_unit(self.rows[r as usize], r) {
-                return false;
-            }
-        }
-        true
+        are_units(&self.rows, self.lines)
     }
 
     fn clash(&self) -> Option<(u64, u64)> {

@@ -2,10 +2,11 @@
 ghost use mathlib.Core.Path.{_≡_};
 ghost use mathlib.Core.Bool.{cond};
 ghost use mathlib.Core.List.{_++_};
-ghost use Prim.Native.Nat.{_<_, _≤_, _^_};
+ghost use Prim.Native.Nat.{ℕ, _<_, _≤_, _^_};
 ghost use lib.Bits.{bitXor};
-ghost use lib.Dec.{eqb, ltb};
+ghost use lib.Dec.{ltb};
 ghost use lib.ListN.{getD, set, take, drop};
+ghost use Rattle.std.specs.Orderings.{Decides};
 ghost use Rattle.std.specs.declared.option.Option.the-variants.{Some, None};
 ghost use Rattle.words.specs.Words.{has, parity, unit};
 ghost use Rattle.matrices.specs.Matrices.{add-column};
@@ -33,11 +34,18 @@ pub(super) fn shared(row: u64, word: u64) -> u64
     ((row & word).count_ones() % 2) as u64
 }
 
-// Whether a row is the unit row of a line.
-pub(super) fn is_unit(row: u64, line: u8) -> bool
-    ensures { λ r. ⌜ r ≡ eqb row (unit line) ⌝ }
+// Whether the first rows are the unit rows.
+pub(super) fn are_units(rows: &[u64; 64], lines: u8) -> bool
+    requires some { ⌜ 1 ≤ lines ⌝ }
+    requires few { ⌜ lines ≤ 64 ⌝ }
+    ensures { λ r. ⌜ Decides r ((k : ℕ) → k < lines → getD (now (rows .entry)) k 0 ≡ unit k) ⌝ }
 {
-    row == unit(line)
+    for line in 0..lines {
+        if rows[line as usize] != unit(line) {
+            return false;
+        }
+    }
+    true
 }
 
 // Adds row `control` to row `target`.
@@ -50,16 +58,24 @@ pub(super) fn add_row(rows: &mut [u64; 64], gate: Cnot)
     rows[gate.target as usize] ^= added;
 }
 
-// The row with its bit `control` flipped where its bit `target` is 1.
-fn turned(row: u64, gate: Cnot) -> u64
-    requires { ⌜ gate .control < 64 ⌝ }
-    ensures { λ r. ⌜ r ≡ cond (has row (gate .target)) (bitXor row (2 ^ gate .control)) row ⌝ }
+// The row with its bit `to` flipped where its bit `from` is 1.
+fn turned(row: u64, from: u8, to: u8) -> u64
+    requires { ⌜ to < 64 ⌝ }
+    ensures { λ r. ⌜ r ≡ cond (has row from) (bitXor row (2 ^ to)) row ⌝ }
 {
-    if has_bit(row, gate.target) {
-        flipped(row, gate.control)
+    if has_bit(row, from) {
+        flipped(row, to)
     } else {
         row
     }
+}
+
+// The row with column `target` added to column `control`.
+fn column_added(row: u64, gate: Cnot) -> u64
+    requires { ⌜ gate .control < 64 ⌝ }
+    ensures { λ r. ⌜ r ≡ cond (has row (gate .target)) (bitXor row (2 ^ gate .control)) row ⌝ }
+{
+    turned(row, gate.target, gate.control)
 }
 
 // Adds column `target` to column `control` in the first rows.
@@ -69,6 +85,6 @@ pub(super) fn add_column(rows: &mut [u64; 64], lines: u8, gate: Cnot)
     ensures { λ _. ⌜ now (rows .exit) ≡ add-column gate (take lines (now (rows .entry))) ++ drop lines (now (rows .entry)) ⌝ }
 {
     for r in 0..lines {
-        rows[r as usize] = turned(rows[r as usize], gate);
+        rows[r as usize] = column_added(rows[r as usize], gate);
     }
 }

@@ -19,5 +19,5 @@ loop-r-again c =
     let rows = c .loop-r .rows in
     let r = c .loop-r .r in
     let within : r < length rows = omega arith in
-    ap (set rows r) (c .turned .ensures)
+    ap (set rows r) (c .column-added .ensures)
     ∙ map-over-more (turned (g .target) (g .control)) (c .args .rows .now) rows r (getD rows r 0) (omega arith) (c .loop-r .inv) (getD-default rows r 0 _ within)
