@@ -1,7 +1,7 @@
 -- Circuits: whether their gates are legal, and what they make of words.
 use mathlib.Core.Path.{_≡_, refl, sym, ap, ap₂, _∙_}
 use mathlib.Core.List.{List, [], _∷_, _++_, reverse, reverse-cons}
-use mathlib.Core.Bool.{Bool, true, false, _&&_, and-assoc, and-comm, and-true}
+use mathlib.Core.Bool.{Bool, true, false, _&&_, and-assoc, and-true}
 use Prim.Native.Nat.{ℕ, zero, suc, _+_, _^_, _<_}
 use native.Mathlib.Omega.{arith}
 use lib.ListN.{length, take, getD}

@@ -3,7 +3,7 @@ use mathlib.Core.Path.{_≡_, refl, sym, ap, subst, _∙_}
 use mathlib.Core.Bool.{Bool, true, false, _&&_, cond, xor}
 use mathlib.Core.List.{List, [], _∷_}
 use mathlib.Core.Logic.{⊎-elim}
-use Prim.Native.Nat.{ℕ, _+_, _/_, _%_, _^_, _≤_, _<_}
+use Prim.Native.Nat.{ℕ, _^_, _≤_, _<_}
 use native.Mathlib.Omega.{arith}
 use lib.Bits.{bitXor, xor-lt, xor-assoc, xor-comm, xor-zero-r, xor-self}
 use lib.Dec.{ltb, leb, eqb, lit≤}
@@ -11,13 +11,13 @@ use lib.Pow.{pow-lt}
 use Rattle.std.proofs.shelf.Tests.{cases-bool, cases-lt, lt-leb, cond-false, cond-true, le-leb, lt-ltb}
 use Rattle.std.proofs.shelf.Ways.{tells}
 use Rattle.words.specs.Words.{has, unit}
-use Rattle.words.specs.Maps.{Same, Linear}
+use Rattle.words.specs.Maps.{Linear}
 use Rattle.words.proofs.Bits.{has-xor}
 use Rattle.words.proofs.Flips.{flip-other, unit-power}
 use Rattle.words.proofs.Units.{by-units}
-use Rattle.gates.specs.Gates.{Kind, Lawful}
+use Rattle.gates.specs.Gates.{Lawful}
 use Rattle.gates.specs.Circuits.{through}
-use Rattle.gates.specs.Probes.{Probes, Tell}
+use Rattle.gates.specs.Probes.{Tell}
 use Rattle.gates.specs.Cnots.{cnot, cnot-legal, cnot-probes}
 use Rattle.gates.specs.declared.cnot.Cnot.{Cnot}
 use Rattle.gates.proofs.CircuitLaws.{through-idle}

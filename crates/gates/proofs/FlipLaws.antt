@@ -8,7 +8,7 @@ use lib.Dec.{ltb}
 use lib.Pow.{pow-lt}
 use Rattle.std.proofs.shelf.Tests.{cases-bool, and-parts, and-from, and-left, and-right, cond-both, cond-true, cond-false, lt-ltb, le-ltb, ltb-true}
 use Rattle.words.proofs.Flips.{flip-twice}
-use Rattle.gates.specs.Gates.{Kind, Lawful}
+use Rattle.gates.specs.Gates.{Lawful}
 use Rattle.gates.specs.Flips.{flip}
 
 module _ {G : Type 0} (most : ℕ) (legal : ℕ → G → Bool) (target : G → ℕ) (passes : G → ℕ → Bool)

@@ -1,6 +1,6 @@
 -- MCT gates keep the law of a gate kind, and all words tell the map of a list of them.
 use mathlib.Core.Path.{_≡_, sym, ap, _∙_}
-use mathlib.Core.Bool.{Bool, true, false, cond}
+use mathlib.Core.Bool.{true, false}
 use mathlib.Core.Logic.{⊎-elim}
 use Prim.Native.Nat.{ℕ, _^_, _≤_, _<_}
 use native.Mathlib.Omega.{arith}
@@ -10,9 +10,8 @@ use Rattle.std.proofs.shelf.Tests.{cases-lt, lt-leb, cond-false, cond-true, le-
 use Rattle.std.proofs.shelf.Ways.{tells}
 use Rattle.words.specs.Words.{bit}
 use Rattle.words.proofs.Flips.{mask-flip}
-use Rattle.gates.specs.Gates.{Kind, Lawful}
-use Rattle.gates.specs.Circuits.{through}
-use Rattle.gates.specs.Probes.{Probes, Tell}
+use Rattle.gates.specs.Gates.{Lawful}
+use Rattle.gates.specs.Probes.{Tell}
 use Rattle.gates.specs.Mcts.{mct, mct-legal, mct-probes}
 use Rattle.gates.specs.declared.mct.Mct.{Mct}
 use Rattle.gates.proofs.CircuitLaws.{through-idle}

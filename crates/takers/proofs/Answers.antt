@@ -1,6 +1,6 @@
 -- When a taker accepts.
 use mathlib.Core.Path.{_≡_}
-use mathlib.Core.Bool.{Bool, true, false}
+use mathlib.Core.Bool.{Bool, true}
 use Prim.Native.Nat.{ℕ, _≤_}
 use Rattle.std.specs.declared.result.Result.the-variants.{Ok}
 use Rattle.gates.specs.Refusals.{answer, unless-legal, short}

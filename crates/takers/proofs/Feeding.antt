@@ -6,7 +6,7 @@ use Prim.Native.Nat.{ℕ, _+_, _^_, _≤_, _<_}
 use native.Mathlib.Omega.{arith}
 use lib.ListN.{length, take, getD, length-append, length-take}
 use Rattle.gates.specs.Gates.{Kind}
-use Rattle.gates.specs.Circuits.{through, all-legal}
+use Rattle.gates.specs.Circuits.{all-legal}
 use Rattle.gates.proofs.CircuitLaws.{through-append, take-next, legal-at}
 use Rattle.takers.specs.Meanings.{Meaning, Fed, FedAll}
 

@@ -1,16 +1,14 @@
 -- What a word keeps when one of its bits is flipped, and words of 64 bits.
-use mathlib.Core.Path.{_≡_, refl, sym, ap, subst, _∙_}
+use mathlib.Core.Path.{_≡_, sym, ap, _∙_}
 use mathlib.Core.Logic.{⊎-elim}
-use mathlib.Core.Bool.{cond}
-use Prim.Native.Nat.{ℕ, _+_, _/_, _%_, _^_, _<_, _≤_, min}
-use native.Mathlib.Nat.{div-eq-of-lt, lt-of-lt-of-le, pow-le-pow-right}
+use Prim.Native.Nat.{ℕ, _^_, _<_, _≤_, min}
+use native.Mathlib.Nat.{lt-of-lt-of-le, pow-le-pow-right}
 use native.Mathlib.Omega.{arith}
-use lib.Bits.{bitAnd, bitXor, and-mask, xor-assoc, xor-self, xor-zero-r}
-use lib.Dec.{eqb, ltb, lit<}
-use Rattle.std.proofs.shelf.Bits.{le-div, pow-pos}
-use Rattle.std.proofs.shelf.Tests.{cases-lt, cases-eq, cond-true, eq-eqb, ne-eqb, lt-ltb, le-ltb}
-use Rattle.words.specs.Words.{bit, has, unit}
-use Rattle.words.proofs.Bits.{bit-lt, bit-xor, bit-and, bit-power-other, same-bits}
+use lib.Bits.{bitAnd, bitXor, xor-assoc, xor-self, xor-zero-r}
+use lib.Dec.{ltb, lit<}
+use Rattle.std.proofs.shelf.Tests.{cases-eq, cond-true, lt-ltb}
+use Rattle.words.specs.Words.{bit, unit}
+use Rattle.words.proofs.Bits.{bit-xor, bit-and, bit-power-other, same-bits}
 
 -- a flip changes no other bit
 pub flip-other : (w t i : ℕ) → (i ≡ t → ⊥) → bit (bitXor w (2 ^ t)) i ≡ bit w i
