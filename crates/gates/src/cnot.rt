@@ -24,7 +24,7 @@ pub impl Gate for Cnot as CnotGate {
     }
 
     fn is_legal(self, n: u8) -> bool {
-        1 <= n && n <= 64 && self.control < n && self.target < n && self.control != self.target
+        n <= 64 && self.control < n && self.target < n && self.control != self.target
     }
 
     fn act(self, n: u8, word: u64) -> u64 {

@@ -24,11 +24,7 @@ pub impl Gate for Mct as MctGate {
 
     fn is_legal(self, n: u8) -> bool {
         let controls = self.controls as u64;
-        1 <= n
-            && n <= 8
-            && is_word(n, controls)
-            && self.target < n
-            && !has_bit(controls, self.target)
+        n <= 8 && is_word(n, controls) && self.target < n && !has_bit(controls, self.target)
     }
 
     fn act(self, n: u8, word: u64) -> u64 {
