@@ -1,4 +1,4 @@
-// What a canceller does where places run out, over a gate list of one place and of two.
+// Small facts that the contracts give: a canceller where places run out, and memory after a gate list has ended.
 ghost use mathlib.Core.Path.{_≡_};
 ghost use mathlib.Core.Bool.{true};
 ghost use Rattle.std.specs.declared.result.Result.the-variants.{Ok, Err};
@@ -36,6 +36,23 @@ pub fn over_two_places() -> (Result<(), Refusal>, Result<(), Refusal>, usize)
     let mut list = GateList::new(&mut places);
     let _ = list.restart(2);
     twice_with_two(list, GATE)
+}
+
+// A gate list ends, and the caller's memory holds the gate that it took, and is as it was in every other place.
+pub fn memory_after_a_list() -> (Cnot, Cnot)
+    ensures { λ r. ⌜ r ≡ (record { control = 0; target = 1 }, record { control = 9; target = 9 }) ⌝ }
+{
+    let unwritten = Cnot {
+        control: 9,
+        target: 9,
+    };
+    let mut places = [unwritten; 2];
+    {
+        let mut list = GateList::new(&mut places);
+        let _ = list.restart(2);
+        let _ = list.take(GATE);
+    }
+    (places[0], places[1])
 }
 
 fn twice_with_one<G: Gate, T: Taker<G> + Drop>(

@@ -45,7 +45,7 @@ fn folded<G: Gate, P: Piece<G> + Drop>(gates: &[G], piece: P) -> Result<P, Refus
 }
 
 // Prints the rows of the gates' matrix, reads it back, and prints the rows of its inverse.
-pub fn tell_matrix(rt: &impl Print, n: u8, gates: &[Cnot]) -> io::Result<()> {
+pub(crate) fn tell_matrix(rt: &impl Print, n: u8, gates: &[Cnot]) -> io::Result<()> {
     print_gates(rt, "given", gates)?;
     let matrix = match matrix_of(n, gates) {
         Ok(matrix) => matrix,
@@ -63,7 +63,7 @@ pub fn tell_matrix(rt: &impl Print, n: u8, gates: &[Cnot]) -> io::Result<()> {
 }
 
 // Prints the gates' table and reads it back.
-pub fn tell_table(rt: &impl Print, n: u8, gates: &[Mct]) -> io::Result<()> {
+pub(crate) fn tell_table(rt: &impl Print, n: u8, gates: &[Mct]) -> io::Result<()> {
     print_gates(rt, "given", gates)?;
     let table = match table_of(n, gates) {
         Ok(table) => table,
@@ -74,7 +74,7 @@ pub fn tell_table(rt: &impl Print, n: u8, gates: &[Mct]) -> io::Result<()> {
 }
 
 // A matrix of these row words is shown its clash.
-pub fn tell_clash(rt: &impl Print, n: u8, rows: &[u64]) -> io::Result<()> {
+pub(crate) fn tell_clash(rt: &impl Print, n: u8, rows: &[u64]) -> io::Result<()> {
     let matrix = match Matrix::new(n, rows) {
         Ok(matrix) => matrix,
         Err(why) => return print_refusal(rt, why),

@@ -22,7 +22,7 @@ use words::unit;
 const FEW_LINES: u8 = 3;
 
 // Shortens the gates, and prints what is left, what it makes of words, and that the map is still the same.
-pub fn shorten_and_tell<G: Probed + fmt::Display>(
+pub(crate) fn shorten_and_tell<G: Probed + fmt::Display>(
     rt: &impl Print,
     n: u8,
     gates: &[G],

@@ -6,7 +6,7 @@ use std::fmt;
 use std::io;
 use words::has_bit;
 
-pub fn print_gates<G: Gate + fmt::Display>(
+pub(crate) fn print_gates<G: Gate + fmt::Display>(
     rt: &impl Print,
     what: &str,
     gates: &[G],
@@ -20,7 +20,7 @@ pub fn print_gates<G: Gate + fmt::Display>(
 }
 
 // A word by its bits, line 0 first.
-pub fn print_bits(rt: &impl Print, n: u8, word: u64) -> io::Result<()> {
+pub(crate) fn print_bits(rt: &impl Print, n: u8, word: u64) -> io::Result<()> {
     print!(rt, "  ")?;
     for line in 0..n {
         let bit = has_bit(word, line) as u8;
@@ -29,7 +29,7 @@ pub fn print_bits(rt: &impl Print, n: u8, word: u64) -> io::Result<()> {
     println!(rt, "")
 }
 
-pub fn print_refusal(rt: &impl Print, why: Refusal) -> io::Result<()> {
+pub(crate) fn print_refusal(rt: &impl Print, why: Refusal) -> io::Result<()> {
     let number = why.number();
     println!(rt, "  declined by {number}: {why}")
 }
