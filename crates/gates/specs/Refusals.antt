@@ -36,6 +36,11 @@ first stands why next = cond stands (Some why) next
 abbrev pub unless-legal : Bool → Option Refusal → Option Refusal
 unless-legal legal next = cond legal next (Some IllegalGate)
 
+-- Two words that share an image, else the next reason.
+abbrev pub unless-clash : Option (ℕ × ℕ) → Option Refusal → Option Refusal
+unless-clash None next = next
+unless-clash (Some p) next = Some (SharedImage (p .0) (p .1))
+
 -- More places are needed than are free.
 abbrev pub short : ℕ → ℕ → Option Refusal
 short needed free = first (ltb free needed) (TooFewPlaces needed free) None

@@ -1,2 +1,4 @@
 pub mod Meanings
 pub mod Rows
+pub mod Jobs
+pub mod Runs

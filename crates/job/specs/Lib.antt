@@ -1,0 +1,4 @@
+pub mod Paper
+pub mod Calls
+pub mod Endings
+pub mod Wholes
