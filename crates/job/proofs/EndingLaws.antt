@@ -17,19 +17,19 @@ use Rattle.gates.specs.declared.refusal.Refusal.the-variants.{LinesDiffer, Ille
 use Rattle.gates.specs.Gates.{Kind, Lawful}
 use Rattle.gates.specs.Refusals.{first, short}
 use Rattle.books.specs.declared.Book.{Book}
-use Rattle.books.specs.Ends.{Ends, empty, held, sound}
+use Rattle.books.specs.Ends.{Ends, held, circuit, sound}
 use Rattle.books.specs.Books.{ends, Kept}
 use Rattle.books.proofs.KeptLaws.{kept-none, kept-more}
 use Rattle.pieces.specs.Meanings.{Meaning}
 use Rattle.pieces.specs.Jobs.{Job, Alike, opened, shown, whole}
-use Rattle.takers.specs.Meanings.{Meaning as TakerMeaning}
+use Rattle.takers.specs.Meanings.{Meaning as TakerMeaning, FedAll}
 use Rattle.job.specs.declared.ticket.Ticket.{Ticket}
 use Rattle.job.specs.declared.step.Step.{Step}
 use Rattle.job.specs.declared.conduct.Ending.{Ending}
 use Rattle.job.specs.declared.conduct.Ending.the-variants.{Deliver, GiveUp}
 use Rattle.job.specs.Paper.{Rules, played}
 use Rattle.job.specs.Calls.{Ready, DeliveryAnswer, Delivered, GivenUp, handed, spoilt}
-use Rattle.job.specs.Endings.{ticket, Withdrawn, HandedOver, Ended}
+use Rattle.job.specs.Endings.{ticket, Withdrawn, Accepted, Declined, HandedOver, Ended}
 use Rattle.job.specs.Wholes.{Played, Conducted}
 use Rattle.job.proofs.Reasons.{spoilt-none}
 use Rattle.job.proofs.WholeLaws.{alike-whole}
@@ -62,6 +62,9 @@ module _ {C G T : Type 0} (K : Kind G) (law : Lawful K) (R : Rules C G) (P : C �
   paper-sent : Same (m .lines) (whole K (m .lines) (played R ss (opened (m .map)))) (m .map)
   paper-sent x h = sym (alike-whole K (m .lines) law (shown m₁ b₁) (played R ss (opened (m .map))) (p .job) x h) ∙ p .sent x h
 
+  paper-legal : sound K (m .lines) (played R ss (opened (m .map)) .ends) ≡ true
+  paper-legal = ap (sound K (m .lines)) (sym (p .job .ends)) ∙ p .legal
+
   -- the gates are legal on the lines of the ticket
   good : sound K (t .lines) (ends b₁) ≡ true
   good = ap (λ (k : ℕ). sound K k (ends b₁)) (p .lines) ∙ p .legal
@@ -79,7 +82,7 @@ module _ {C G T : Type 0} (K : Kind G) (law : Lawful K) (R : Rules C G) (P : C �
     gave : GivenUp K m₁ b₁ m₂ b₂
     gave = subst (λ r. Cases r (λ _. GivenUp K m₁ b₁ m₂ b₂) (λ _. Q)) accepted after
 
-    withdrawn : Withdrawn meaning m (played R ss (opened (m .map))) m₂ b₂ s s e
+    withdrawn : Withdrawn K meaning m (played R ss (opened (m .map))) m₂ b₂ s s e
     withdrawn =
         let back : Same (m .lines) (m₂ .map) (whole K (m .lines) (shown m₁ b₁)) =
         subst (λ (k : ℕ). Same k (m₂ .map) (whole K k (shown m₁ b₁))) (p .same-lines) (gave .job .map) in
@@ -91,8 +94,9 @@ module _ {C G T : Type 0} (K : Kind G) (law : Lawful K) (R : Rules C G) (P : C �
       kept = kept-more (p .kept) (gave .kept);
       answers = p .answers;
       sent = paper-sent;
+      legal = paper-legal;
       each = p .each;
-      ended = subst (Ended meaning m (played R ss (opened (m .map))) m₂ b₂ s s e) (sym is) withdrawn;
+      ended = subst (Ended K meaning m (played R ss (opened (m .map))) m₂ b₂ s s e) (sym is) withdrawn;
     }
 
   -- ---- delivery
@@ -109,23 +113,23 @@ module _ {C G T : Type 0} (K : Kind G) (law : Lawful K) (R : Rules C G) (P : C �
         let here : Left t (m₁ .lines) = when-true (Left t (m₁ .lines)) (e ≡ Err (t, LinesDiffer)) (eq-eqb (t .lines) (m₁ .lines) (p .lines ∙ sym (p .same-lines))) told in
         subst (λ u. Left u (m .lines)) (ap ticket (p .lines)) (subst (Left t) (p .same-lines) here)
 
-    -- what the taker and the book come to
-    abbrev Accepted : Type 0
-    Accepted =
-        (meaning s′ .lines ≡ meaning s .lines)
-        × Same (m .lines) (meaning s′ .map) (λ w. m .map (meaning s .map w))
-        × (ends b₂ ≡ empty)
-        × Same (m .lines) (m₁ .map) (played R ss (opened (m .map)) .map)
+    abbrev Takes : Type 0
+    Takes = Accepted K meaning m (played R ss (opened (m .map))) m₁ b₂ s s′ e
 
-    accepted-delivery : Delivered K m₁ b₁ b₂ (meaning s) (meaning s′) → Accepted
+    accepted-delivery : Delivered K m₁ b₁ b₂ (meaning s) (meaning s′) → Takes
     accepted-delivery d =
         let f = meaning s .map in
         let keeps : Keeps (m .lines) f = subst (λ (k : ℕ). Keeps k f) (p .same-lines) (d .keeps) in
         let follows : Same (m .lines) (meaning s′ .map) (λ w. whole K (m .lines) (shown m₁ b₁) (f w)) =
         subst (λ (k : ℕ). Same k (meaning s′ .map) (λ w. whole K k (shown m₁ b₁) (f w))) (p .same-lines) (d .follows) in
-        (d .fed .same-lines, (λ w h. follows w h ∙ p .sent (f w) (keeps w h)), d .emptied, p .job .map)
+        record {
+          fed = subst (λ es. FedAll K (meaning s) (circuit es) (meaning s′)) (p .job .ends) (d .fed);
+          follows = λ w h. follows w h ∙ p .sent (f w) (keeps w h);
+          emptied = d .emptied;
+          same-map = p .job .map;
+        }
 
-    handed-over : HandedOver meaning m (played R ss (opened (m .map))) m₁ b₂ s s′ e
+    handed-over : HandedOver K meaning m (played R ss (opened (m .map))) m₁ b₂ s s′ e
     unfolding Left
     handed-over =
         let n = m .lines in
@@ -136,8 +140,8 @@ module _ {C G T : Type 0} (K : Kind G) (law : Lawful K) (R : Rules C G) (P : C �
           answer = when-map (eqb n (meaning s .lines)) (When (sound K n (ends b₁)) (Ready u n (m₁ .map) (ends b₁) free e) (e ≡ Err (u, IllegalGate))) (Ready u n (j .map) (j .ends) free e) (e ≡ Err (u, LinesDiffer))
               (λ w. ready-alike n u (m₁ .map) (j .map) (ends b₁) (j .ends) free e (p .job .map) (p .job .ends) (when-true (Ready u n (m₁ .map) (ends b₁) free e) (e ≡ Err (u, IllegalGate)) (p .legal) w))
               left;
-          after = cases-map (Delivered K m₁ b₁ b₂ (meaning s) (meaning s′)) Accepted ((b₂ ≡ b₁) × (s′ ≡ s)) (Alike n (shown m₁ b₂) j × (s′ ≡ s))
-              accepted-delivery (λ q. (subst (λ c. Alike n (shown m₁ c) j) (sym (q .0)) (p .job), q .1)) e after;
+          after = cases-map (Delivered K m₁ b₁ b₂ (meaning s) (meaning s′)) Takes ((b₂ ≡ b₁) × (s′ ≡ s)) (Declined K meaning m j m₁ b₂ s s′ e)
+              accepted-delivery (λ q. record { job = subst (λ c. Alike n (shown m₁ c) j) (sym (q .0)) (p .job); untouched = q .1 }) e after;
         }
 
     pub delivered : (ending : Ending) → ending ≡ Deliver → Conducted K R P m b ss ss′ m₁ b₂ meaning s s′ ending e
@@ -147,6 +151,7 @@ module _ {C G T : Type 0} (K : Kind G) (law : Lawful K) (R : Rules C G) (P : C �
           (cases-both (Delivered K m₁ b₁ b₂ (meaning s) (meaning s′)) ((b₂ ≡ b₁) × (s′ ≡ s)) (Kept b₁ b₂) (λ d. d .kept) (λ q. subst (Kept b₁) (sym (q .0)) (kept-none b₁)) e after);
       answers = p .answers;
       sent = paper-sent;
+      legal = paper-legal;
       each = p .each;
-      ended = subst (Ended meaning m (played R ss (opened (m .map))) m₁ b₂ s s′ e) (sym is) handed-over;
+      ended = subst (Ended K meaning m (played R ss (opened (m .map))) m₁ b₂ s s′ e) (sym is) handed-over;
     }

@@ -14,3 +14,4 @@ pub mod EditSteps
 pub mod CallSteps
 pub mod Playing
 pub mod EndingLaws
+pub mod Declines

@@ -39,5 +39,6 @@ module _ {C G : Type 0} (K : Kind G) (R : Rules C G) (P : C → Job G → Type 0
     pub kept : Kept b b′
     pub answers : ss′ ≡ answered R ss (opened (m .map))
     pub sent : Same (m .lines) (whole K (m .lines) (played R ss (opened (m .map)))) (m .map)
+    pub legal : sound K (m .lines) (played R ss (opened (m .map)) .ends) ≡ true
     pub each : Each R P ss (opened (m .map))
-    pub ended : Ended meaning m (played R ss (opened (m .map))) m′ b′ s s′ e ending
+    pub ended : Ended K meaning m (played R ss (opened (m .map))) m′ b′ s s′ e ending

@@ -39,7 +39,7 @@ pub(crate) fn all_legal<G: Gate>(book: &Book<G>, n: u8) -> bool
     ensures { λ r. ⌜ r ≡ sound (G·Gate .kind) n (ends (now (book .entry))) ⌝ }
 {
     let mut at = 0;
-    while let Some(gate) = book.gate(at) {
+    while let Some(gate) = next_gate(book, at) {
         if !gate.is_legal(n) {
             return false;
         }

@@ -2,18 +2,28 @@
 mod folding;
 mod shortening;
 mod telling;
+mod working;
 
+use books::Book;
 use folding::tell_clash;
 use folding::tell_matrix;
 use folding::tell_table;
 use gates::cnot::Cnot;
 use gates::cnot::CnotDisplay;
 use gates::cnot::CnotProbed;
+use gates::end::End;
 use gates::mct::Mct;
 use gates::mct::MctDisplay;
+use gates::mct::MctGate;
 use gates::mct::MctProbed;
+use job::call::Edit;
+use job::step::Step;
 use shortening::shorten_and_tell;
 use std::io;
+use tables::table::Table;
+use takers::list::GateList;
+use telling::print_refusal;
+use working::work_by_hand;
 
 fn main(rt: LibcRuntime) -> io::Result<()> {
     shorten_cnots(&rt)?;
@@ -21,7 +31,8 @@ fn main(rt: LibcRuntime) -> io::Result<()> {
     shorten_on_many_lines(&rt)?;
     be_declined(&rt)?;
     fold_gates(&rt)?;
-    look_for_clashes(&rt)
+    look_for_clashes(&rt)?;
+    work(&rt)
 }
 
 fn cnot(control: u8, target: u8) -> Cnot {
@@ -95,4 +106,32 @@ fn look_for_clashes(rt: &impl Print) -> io::Result<()> {
 
     println!(rt, "A row is too large for 2 lines.")?;
     tell_clash(rt, 2, &[0b11, 0b100])
+}
+
+fn step(call: Edit<Mct>) -> Step<Edit<Mct>> {
+    Step { call, answer: None }
+}
+
+fn work(rt: &impl Print) -> io::Result<()> {
+    println!(rt, "A job by hand on the table 0 2 3 1.")?;
+    let table = match Table::new(2, &[0, 2, 3, 1]) {
+        Ok(table) => table,
+        Err(why) => return print_refusal(rt, why),
+    };
+    let mut steps = [
+        step(Edit::Put(End::Output, mct(0b01, 1))),
+        step(Edit::Put(End::Input, mct(0b01, 1))),
+        step(Edit::TakeBack(End::Output)),
+        step(Edit::TakeBack(End::Output)),
+        step(Edit::Put(End::Output, mct(0b01, 2))),
+        step(Edit::Put(End::Output, mct(0b10, 0))),
+    ];
+    let mut found = [mct(0, 0); 8];
+    let mut delivered = [mct(0, 0); 8];
+    let mut list = GateList::new(&mut delivered);
+    if let Err(why) = list.restart(2) {
+        return print_refusal(rt, why);
+    }
+    let mut book = Book::new(&mut found);
+    work_by_hand(rt, table, &mut steps, &mut book, &mut list)
 }
