@@ -8,7 +8,7 @@ use Rattle.std.specs.Orderings.{When}
 use Rattle.std.specs.declared.option.Option.{Option}
 use Rattle.std.specs.declared.option.Option.the-variants.{Some, None}
 use Rattle.std.specs.declared.result.Result.{Result}
-use Rattle.std.specs.declared.result.Result.the-variants.{Ok, Err}
+use Rattle.std.specs.declared.result.Result.the-variants.{Err}
 use Rattle.gates.specs.declared.refusal.Refusal.{Refusal}
 use Rattle.gates.specs.declared.refusal.Refusal.the-variants.{LinesDiffer}
 use Rattle.gates.specs.Gates.{Kind}

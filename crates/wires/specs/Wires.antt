@@ -1,14 +1,13 @@
 -- A piece of one line, by the images of its two words.
 use mathlib.Core.Path.{_≡_}
 use mathlib.Core.Bool.{cond}
-use mathlib.Core.List.{List, [], _∷_}
+use mathlib.Core.List.{[], _∷_}
 use Prim.Native.Nat.{ℕ, _-_, _*_, _^_}
 use lib.Dec.{eqb}
 use Rattle.std.specs.declared.option.Option.{Option}
 use Rattle.std.specs.declared.option.Option.the-variants.{Some, None}
 use Rattle.std.specs.declared.result.Result.{Result}
 use Rattle.std.specs.declared.result.Result.the-variants.{Ok, Err}
-use Rattle.gates.specs.declared.end.End.{End}
 use Rattle.gates.specs.declared.end.End.the-variants.{Output}
 use Rattle.gates.specs.declared.mct.Mct.{Mct}
 use Rattle.gates.specs.declared.refusal.Refusal.{Refusal}
