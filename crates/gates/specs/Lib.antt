@@ -5,3 +5,4 @@ pub mod Flips
 pub mod Probes
 pub mod Cnots
 pub mod Mcts
+pub mod Texts

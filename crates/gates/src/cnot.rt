@@ -1,6 +1,8 @@
 // CNOT gates: one control and one target.
 ghost use mathlib.Core.Path.{_≡_};
+ghost use Rattle.std.specs.declared.option.Option.the-variants.{Some};
 ghost use Rattle.gates.specs.Cnots.{cnot, cnot-probes};
+ghost use Rattle.gates.specs.Texts.{cnot-text};
 use crate::gate::Gate;
 use crate::probed::Probed;
 use std::fmt;
@@ -62,6 +64,8 @@ fn unit_count(n: u8) -> u16
 
 // As (control, target).
 pub impl fmt::Display for Cnot as CnotDisplay {
+    ghost shown = { λ g. Some (cnot-text g) };
+
     fn fmt<W: fmt::Write>(&self, f: &mut fmt::Formatter<W>) -> fmt::Result {
         let control = self.control;
         let target = self.target;

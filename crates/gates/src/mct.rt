@@ -1,6 +1,8 @@
 // MCT gates: a NOT with any number of controls.
 ghost use mathlib.Core.Path.{_≡_};
+ghost use Rattle.std.specs.declared.option.Option.the-variants.{Some};
 ghost use Rattle.gates.specs.Mcts.{mct, mct-probes};
+ghost use Rattle.gates.specs.Texts.{control-text, mct-text};
 use crate::gate::Gate;
 use crate::probed::Probed;
 use std::fmt;
@@ -63,14 +65,31 @@ fn word_count(n: u8) -> u16
 
 // As (controls -> target), as in (0 2 -> 1) and, without a control, (-> 1).
 pub impl fmt::Display for Mct as MctDisplay {
+    ghost shown = { λ g. Some (mct-text g) };
+
     fn fmt<W: fmt::Write>(&self, f: &mut fmt::Formatter<W>) -> fmt::Result {
-        write!(f, "(")?;
-        for line in 0..8u8 {
-            if has_bit(self.controls as u64, line) {
-                write!(f, "{line} ")?;
-            }
-        }
+        let a = self.control_text(0, "0 ");
+        let b = self.control_text(1, "1 ");
+        let c = self.control_text(2, "2 ");
+        let d = self.control_text(3, "3 ");
+        let e = self.control_text(4, "4 ");
+        let g = self.control_text(5, "5 ");
+        let h = self.control_text(6, "6 ");
+        let i = self.control_text(7, "7 ");
         let target = self.target;
-        write!(f, "-> {target})")
+        write!(f, "({a}{b}{c}{d}{e}{g}{h}{i}-> {target})")
+    }
+}
+
+impl Mct {
+    // The text of a line, if it is a control.
+    fn control_text(self, line: u8, text: &'static str) -> &'static str
+        ensures { λ r. ⌜ now r ≡ control-text self line (now (text .entry)) ⌝ }
+    {
+        if has_bit(self.controls as u64, line) {
+            text
+        } else {
+            ""
+        }
     }
 }
