@@ -1,4 +1,6 @@
 // The answer sheet: what it is, and how it is written.
+#![tactic(auto)]
+
 mod contents;
 pub mod draft;
 pub mod fault;

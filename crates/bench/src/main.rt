@@ -1,5 +1,7 @@
 // How many gates runs find: on random matrices and tables, with the time they take if an argument is given, and on all tables of
 // three lines; and how many places the run of a matrix needs.
+#![tactic(auto)]
+
 mod exhaustive;
 mod places;
 mod random;

@@ -1,4 +1,6 @@
 // The gate book: the gates found at the two ends of a circuit, in memory that the caller lends.
+#![tactic(auto)]
+
 ghost use Rattle.std.specs.Prelude.{◌+◌, ◌≤◌, min, length};
 
 mod counts;

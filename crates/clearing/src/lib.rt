@@ -1,4 +1,6 @@
 // Clearing the lines of a matrix: what it means, and why it ends at identity.
+#![tactic(auto)]
+
 ghost use Rattle.clearing.specs.Example.{Line0};
 ghost use Rattle.clearing.specs.Laws.{ClearSolves, RunEnds};
 

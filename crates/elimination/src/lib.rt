@@ -1,4 +1,6 @@
 // Elimination: the lines of a matrix are cleared by CNOT gates, each time the line with the largest cost drop per gate.
+#![tactic(auto)]
+
 mod found;
 mod half;
 mod pair;

@@ -1,4 +1,6 @@
 // Gates on lines, the ends of a circuit, and why a call declines.
+#![tactic(auto)]
+
 pub mod circuit;
 pub mod cnot;
 pub mod end;

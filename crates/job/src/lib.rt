@@ -1,4 +1,6 @@
 // Jobs: a piece and a book under a ticket.
+#![tactic(auto)]
+
 pub mod by_hand;
 pub mod call;
 pub mod conduct;

@@ -1,4 +1,6 @@
 // Mapping the rows of a table: the run of a table that takes MCT gates.
+#![tactic(auto)]
+
 mod draft;
 mod row;
 mod rows;

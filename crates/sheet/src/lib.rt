@@ -1,4 +1,6 @@
 // The order sheet: its reader.
+#![tactic(auto)]
+
 pub mod body;
 pub mod contents;
 pub mod entry;

@@ -1,2 +1,4 @@
 // Tables of images as pieces that take gates of any kind.
+#![tactic(auto)]
+
 pub mod table;

@@ -1,4 +1,6 @@
 // Takers: what gates are fed to.
+#![tactic(auto)]
+
 pub mod canceller;
 pub mod edge;
 pub mod feed;

@@ -1,4 +1,6 @@
 // A tour of what is built: each task is done on values that a laboratory might send, and accounted for in print.
+#![tactic(auto)]
+
 mod folding;
 mod shortening;
 mod telling;

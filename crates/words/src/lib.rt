@@ -1,4 +1,6 @@
 // Line words: on n lines the numbers below 2^n, whose bit i is the value on line i.
+#![tactic(auto)]
+
 ghost use Rattle.std.specs.Prelude.{◌≡◌, ◌^◌, bit_xor, nat_lt};
 ghost use Rattle.words.specs.Words.{has, unit};
 
