@@ -6,6 +6,6 @@ pub returns : goal.returns
 returns c =
     let whole = length-append (contents_line c.args.first c.args.head) (10 ∷ []) in
     record {
-      size = omega (arith, c.put-contents-line.ensures.puts.place, whole);
-      short = omega (arith, c.put-contents-line.ensures.short);
+      size = omega (arith, c.put_contents_line.ensures.puts.place, whole);
+      short = omega (arith, c.put_contents_line.ensures.short);
     }

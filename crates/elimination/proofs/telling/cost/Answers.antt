@@ -8,9 +8,9 @@ use Rattle.elimination.proofs.telling.cost.Goals as goal
 
 pub returns-in-err-pair : goal.returns-in-err-pair
 returns-in-err-pair c =
-    let e = err_from_is_err_and c.from-residual.result c.from-residual.ensures.1 in
+    let e = err_from_is_err_and c.from_residual.result c.from_residual.ensures.1 in
     let m = c.args.matrix.now in
-    clash_told m (map_cost m.lines (image (rows_of m))) c.in-err-pair.field-0.0 c.from-residual.result c.in-err-pair.ensures (e.1 ∙ ap Err e.2)
+    clash_told m (map_cost m.lines (image (rows_of m))) c.in-err-pair.field-0.0 c.from_residual.result c.in-err-pair.ensures (e.1 ∙ ap Err e.2)
 
 pub returns : goal.returns
 returns c =

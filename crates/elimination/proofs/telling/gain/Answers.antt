@@ -12,11 +12,11 @@ use Rattle.elimination.specs.Layouts.{state_of}
 use Rattle.elimination.proofs.CostLaws.{clash_told, value_told, cost_told, cost_after_told, gain_between}
 use Rattle.elimination.proofs.telling.gain.Goals as goal
 
-pub returns-then-not-is-legal : goal.returns-then-not-is-legal
-returns-then-not-is-legal c =
+pub returns-then-not-is_legal : goal.returns-then-not-is_legal
+returns-then-not-is_legal c =
     let m = c.args.matrix.now in
     let g = c.args.gate in
-    let off : cnot_legal m.lines g ≡ false = ap (λ (n : ℕ). cnot_legal n g) (sym c.lines.ensures.count) ∙ sym c.is-legal.ensures ∙ c.if-not-is-legal.true in
+    let off : cnot_legal m.lines g ≡ false = ap (λ (n : ℕ). cnot_legal n g) (sym c.lines.ensures.count) ∙ sym c.is_legal.ensures ∙ c.if-not-is_legal.true in
     record {
       told = record { illegal = λ _. refl; legal = λ on. absurd (both_ways (cnot_legal m.lines g) off on) };
       between = tt;
@@ -24,16 +24,16 @@ returns-then-not-is-legal c =
 
 pub returns-in-err-pair : goal.returns-in-err-pair
 returns-in-err-pair c =
-    let e = err_from_is_err_and c.from-residual.result c.from-residual.ensures.1 in
+    let e = err_from_is_err_and c.from_residual.result c.from_residual.ensures.1 in
     let m = c.args.matrix.now in
     let g = c.args.gate in
-    let on : cnot_legal m.lines g ≡ true = ap (λ (n : ℕ). cnot_legal n g) (sym c.lines.ensures.count) ∙ sym c.is-legal.ensures ∙ c.if-not-is-legal.false in
+    let on : cnot_legal m.lines g ≡ true = ap (λ (n : ℕ). cnot_legal n g) (sym c.lines.ensures.count) ∙ sym c.is_legal.ensures ∙ c.if-not-is_legal.false in
     record {
       told = record {
         illegal = λ off. absurd (both_ways (cnot_legal m.lines g) off on);
-        legal = λ _. clash_told m (map_gain m.lines (image (rows_of m)) c.args.end g) c.in-err-pair.field-0.0 c.from-residual.result c.in-err-pair.ensures (e.1 ∙ ap Err e.2);
+        legal = λ _. clash_told m (map_gain m.lines (image (rows_of m)) c.args.end g) c.in-err-pair.field-0.0 c.from_residual.result c.in-err-pair.ensures (e.1 ∙ ap Err e.2);
       };
-      between = MatchResult-from_err _ _ _ c.from-residual.ensures.0 (λ _. tt);
+      between = MatchResult-from_err _ _ _ c.from_residual.ensures.0 (λ _. tt);
     }
 
 pub returns : goal.returns
@@ -44,9 +44,9 @@ returns c =
     let g = c.args.gate in
     let p = c.in-ok-pair.pair in
     let is = c.in-ok-pair.ensures in
-    let on : cnot_legal n g ≡ true = ap (λ (k : ℕ). cnot_legal k g) (sym c.lines.ensures.count) ∙ sym c.is-legal.ensures ∙ c.if-not-is-legal.false in
-    let after : c.cost-after.result ≡ cost (place_at e g (state_of p)) = c.cost-after.ensures.value ∙ ap (λ (x : Placed). cost (pairs.place x (state_of p))) c.added-line-from.ensures in
-    let fits : SFits w32 c.difference.result = omega (arith, ints, c.difference.ensures, c.cost-before.ensures.small, c.cost-after.ensures.small) in
+    let on : cnot_legal n g ≡ true = ap (λ (k : ℕ). cnot_legal k g) (sym c.lines.ensures.count) ∙ sym c.is_legal.ensures ∙ c.if-not-is_legal.false in
+    let after : c.cost_after.result ≡ cost (place_at e g (state_of p)) = c.cost_after.ensures.value ∙ ap (λ (x : Placed). cost (pairs.place x (state_of p))) c.added_line-from.ensures in
+    let fits : SFits w32 c.difference.result = omega (arith, ints, c.difference.ensures, c.cost-before.ensures.small, c.cost_after.ensures.small) in
     let value : _ ≡ pos (cost (state_of p)) -ℤ pos (cost (place_at e g (state_of p))) =
     to_z-of_z w32 c.difference.result fits ∙ c.difference.ensures ∙ ap₂ (λ (x y : ℕ). pos x -ℤ pos y) c.cost-before.ensures.value after in
     record {

@@ -12,7 +12,7 @@ returns-in-Deliver g c =
     let R = edits K m.lines (places b) in
     let played = c.in-Ok.ensures in (
       played.0,
-      delivered K g.met.G.Gate.lawful R (λ _ _. Unit {0}) m b c.args.steps.now c.play-by-hand.new.steps (g.P.Piece.meaning c.play-by-hand.new.piece) c.play-by-hand.new.book c.in-Ok.ticket played.1 g.T.Taker.meaning c.args.taker.now
+      delivered K g.met.G.Gate.lawful R (λ _ _. Unit {0}) m b c.args.steps.now c.play_by_hand.new.steps (g.P.Piece.meaning c.play_by_hand.new.piece) c.play_by_hand.new.book c.in-Ok.ticket played.1 g.T.Taker.meaning c.args.taker.now
           c.deliver.new.book c.deliver.new.taker c.deliver.result c.deliver.ensures.answer c.deliver.ensures.after c.args.ending c.in-Deliver.is,
     )
 
@@ -23,13 +23,13 @@ returns-in-GiveUp g c =
     let b = c.args.book.now in
     let R = edits K m.lines (places b) in
     let played = c.in-Ok.ensures in
-    let p₁ = c.play-by-hand.new.piece in
-    let b₁ = c.play-by-hand.new.book in
-    let p₂ = c.give-up.new.piece in
-    let b₂ = c.give-up.new.book in (
+    let p₁ = c.play_by_hand.new.piece in
+    let b₁ = c.play_by_hand.new.book in
+    let p₂ = c.give_up.new.piece in
+    let b₂ = c.give_up.new.book in (
       played.0,
-      given_up K g.met.G.Gate.lawful R (λ _ _. Unit {0}) m b c.args.steps.now c.play-by-hand.new.steps (g.P.Piece.meaning p₁) b₁ c.in-Ok.ticket played.1 g.T.Taker.meaning c.args.taker.now
-          ((p₂ ≡ p₁) × (b₂ ≡ b₁)) (g.P.Piece.meaning p₂) b₂ c.give-up.result c.give-up.ensures.answer c.give-up.ensures.after c.args.ending c.in-GiveUp.is,
+      given_up K g.met.G.Gate.lawful R (λ _ _. Unit {0}) m b c.args.steps.now c.play_by_hand.new.steps (g.P.Piece.meaning p₁) b₁ c.in-Ok.ticket played.1 g.T.Taker.meaning c.args.taker.now
+          ((p₂ ≡ p₁) × (b₂ ≡ b₁)) (g.P.Piece.meaning p₂) b₂ c.give_up.result c.give_up.ensures.answer c.give_up.ensures.after c.args.ending c.in-GiveUp.is,
     )
 
 pub returns-in-Err : goal.returns-in-Err

@@ -29,11 +29,11 @@ returns-in-GiveUp g c =
     let played = c.in-Ok.ensures in
     let p₁ = c.play.new.piece in
     let b₁ = c.play.new.book in
-    let p₂ = c.give-up.new.piece in
-    let b₂ = c.give-up.new.book in (
+    let p₂ = c.give_up.new.piece in
+    let b₂ = c.give_up.new.book in (
       played.0,
       given_up K g.met.G.Gate.lawful R P m b c.args.steps.now c.play.new.steps (g.P.Piece.meaning p₁) b₁ c.in-Ok.ticket played.1 g.T.Taker.meaning c.args.taker.now
-          ((p₂ ≡ p₁) × (b₂ ≡ b₁)) (g.P.Piece.meaning p₂) b₂ c.give-up.result c.give-up.ensures.answer c.give-up.ensures.after c.args.ending c.in-GiveUp.is,
+          ((p₂ ≡ p₁) × (b₂ ≡ b₁)) (g.P.Piece.meaning p₂) b₂ c.give_up.result c.give_up.ensures.answer c.give_up.ensures.after c.args.ending c.in-GiveUp.is,
     )
 
 pub returns-in-Err : goal.returns-in-Err

@@ -9,10 +9,10 @@ use Rattle.job.proofs.work.all_legal.Goals as goal
 pub loop-gate-init : goal.loop-gate-init
 loop-gate-init g c = refl
 
-pub returns-then-not-is-legal : goal.returns-then-not-is-legal
-returns-then-not-is-legal g c =
+pub returns-then-not-is_legal : goal.returns-then-not-is_legal
+returns-then-not-is_legal g c =
     not_sound g.G.Gate.kind c.args.n (ends c.args.book.now) c.loop-gate.at c.in-Some.gate (sym c.in-Some.ensures)
-    (sym c.if-not-is-legal.ensures)
+    (sym c.if-not-is_legal.ensures)
 
 pub overflow-add-at : goal.overflow-add-at
 overflow-add-at g c =
@@ -27,7 +27,7 @@ loop-gate-smaller g c =
 pub loop-gate-preserved : goal.loop-gate-preserved
 loop-gate-preserved g c =
     sound_next g.G.Gate.kind c.args.n (ends c.args.book.now) c.loop-gate.at c.in-Some.gate (sym c.in-Some.ensures)
-    c.loop-gate.invariant c.if-not-is-legal.ensures
+    c.loop-gate.invariant c.if-not-is_legal.ensures
 
 pub returns : goal.returns
 returns g c =

@@ -20,8 +20,8 @@ loop-gate-smaller g c =
     let h = nth_within (circuit (ends c.args.book.now)) c.loop-gate.at c.in-Some.gate (sym c.in-Some.ensures) in
     omega arith
 
-pub feed-one-requires : goal.feed-one-requires
-feed-one-requires g c =
+pub feed_one-requires : goal.feed_one-requires
+feed_one-requires g c =
     let K = g.G.Gate.kind in
     let m = g.T.Taker.meaning c.args.taker.now in
     let a = g.T.Taker.meaning c.loop-gate.taker in
@@ -42,7 +42,7 @@ loop-gate-preserved g c =
     let gate = c.in-Some.gate in
     let meaning = g.T.Taker.meaning in
     fed_more g.G.Gate.kind (meaning c.args.taker.now) gs at gate (nth_within gs at gate (sym c.in-Some.ensures))
-    (nth_read gs at gate (sym c.in-Some.ensures)) (meaning c.loop-gate.taker) c.loop-gate.invariant (meaning c.feed-one.new.taker) c.feed-one.ensures
+    (nth_read gs at gate (sym c.in-Some.ensures)) (meaning c.loop-gate.taker) c.loop-gate.invariant (meaning c.feed_one.new.taker) c.feed_one.ensures
 
 pub returns : goal.returns
 returns g c =

@@ -30,8 +30,8 @@ module _ (y x c a b : ℕ) (ec : c ≡ shrink y x) (ea : a ≡ outside (bit_xor 
   both_at : (e : End) → at_end e (flips c a) ++ at_end e (flips x b) ≡ at_end e (mapping y x)
   both_at e = sym (map-append (λ g. (e, g)) (flips c a) (flips x b)) ∙ ap (at_end e) both_are
 
-pub put-flips-requires : goal.put-flips-requires
-put-flips-requires c =
+pub put_flips-requires : goal.put_flips-requires
+put_flips-requires c =
     let d = c.args.draft.now in
     let y = c.args.y in
     let x = c.args.x in
@@ -47,8 +47,8 @@ put-flips-requires c =
       room = omega (arith, c.requires.room, both_long y x s a (outside s x) ec ea refl);
     }
 
-pub put-flips-requires-2 : goal.put-flips-requires-2
-put-flips-requires-2 c =
+pub put_flips-requires-2 : goal.put_flips-requires-2
+put_flips-requires-2 c =
     let d = c.args.draft.now in
     let y = c.args.y in
     let x = c.args.x in
@@ -58,10 +58,10 @@ put-flips-requires-2 c =
     let ec = c.shrink-c.ensures in
     let ea = c.without.ensures in
     let eb = c.without-2.ensures in
-    let left = took_free (at_end c.args.end (flips s a)) d c.args.book.now c.put-flips.new.draft c.put-flips.new.book c.put-flips.ensures in
+    let left = took_free (at_end c.args.end (flips s a)) d c.args.book.now c.put_flips.new.draft c.put_flips.new.book c.put_flips.ensures in
     record {
       legal = λ i e.
-          subst (λ (n : ℕ). mct_legal n (gate x i) ≡ true) (sym c.put-flips.ensures.same_lines)
+          subst (λ (n : ℕ). mct_legal n (gate x i) ≡ true) (sym c.put_flips.ensures.same_lines)
           (second_legal d.lines y x d.some d.few c.requires.order c.requires.word i (ap (λ (w : ℕ). bit w i) (sym (second_is y x s a b ec ea eb)) ∙ e));
       room = omega (arith, c.requires.room, both_long y x s a b ec ea eb, at_end_length c.args.end (flips s a));
     }
@@ -76,7 +76,7 @@ returns c =
     let s = c.shrink-c.result in
     let a = c.without.result in
     let b = c.without-2.result in
-    subst (λ ps. Took d bk ps c.put-flips-2.new.draft c.put-flips-2.new.book)
+    subst (λ ps. Took d bk ps c.put_flips-2.new.draft c.put_flips-2.new.book)
     (both_at y x s a b c.shrink-c.ensures c.without.ensures c.without-2.ensures e)
-    (took_more (at_end e (flips s a)) (at_end e (flips x b)) d bk c.put-flips.new.draft c.put-flips.new.book c.put-flips-2.new.draft c.put-flips-2.new.book
-    c.put-flips.ensures c.put-flips-2.ensures)
+    (took_more (at_end e (flips s a)) (at_end e (flips x b)) d bk c.put_flips.new.draft c.put_flips.new.book c.put_flips-2.new.draft c.put_flips-2.new.book
+    c.put_flips.ensures c.put_flips-2.ensures)

@@ -13,7 +13,7 @@ put-requires c =
     let e = c.args.end in
     let w = c.args.targets in
     let k = c.loop-target.target in
-    let one = sym c.if-has-bit.ensures in
+    let one = sym c.if-has_bit.ensures in
     let sofar = so_far e c.args.controls w k in
     let left = took_free sofar c.args.draft.now c.args.book.now c.loop-target.draft c.loop-target.book c.loop-target.invariant in
     record {
@@ -29,13 +29,13 @@ loop-target-preserved c =
     let d = c.args.draft.now in
     let b = c.args.book.now in
     let next = so_far e c.args.controls w (k + 1) in
-    elim c.if-has-bit.branch [
+    elim c.if-has_bit.branch [
       | then-has-bit v ↦
           subst₂ (Took d b next) (sym v.draft-is) (sym v.book-is)
-          (took_line e c.args.controls w k d b c.loop-target.draft c.loop-target.book c.loop-target.invariant _ _ (sym v.if-has-bit.ensures) v.put.ensures)
+          (took_line e c.args.controls w k d b c.loop-target.draft c.loop-target.book c.loop-target.invariant _ _ (sym v.if-has_bit.ensures) v.put.ensures)
       | else-has-bit v ↦
           subst₂ (Took d b next) (sym v.draft-is) (sym v.book-is)
-          (took_no_line e c.args.controls w k d b c.loop-target.draft c.loop-target.book c.loop-target.invariant (sym v.if-has-bit.ensures))
+          (took_no_line e c.args.controls w k d b c.loop-target.draft c.loop-target.book c.loop-target.invariant (sym v.if-has_bit.ensures))
     ]
 
 pub returns : goal.returns

@@ -17,16 +17,16 @@ rows-init c = no_rows c.args.draft.now c.args.book.now c.requires.apart
 pub loop-word-init : goal.loop-word-init
 loop-word-init c =
     let n = c.args.draft.now.lines in
-    let here : c.rows.row < 2 ^ n = omega (arith, c.rows-test.true, c.but-last-row-end.ensures, c.count-count.ensures) in (
+    let here : c.rows.row < 2 ^ n = omega (arith, c.rows-test.true, c.but_last-row-end.ensures, c.count-count.ensures) in (
       subst (λ (m : ℕ). c.rows.row < 2 ^ m) (sym c.rows.invariant.took.same_lines) here,
       look_start (total (image c.rows.draft) c.rows.row) 16 c.rows.row c.rows.row 4294967295 (lit< tt),
     )
 
-pub total-of-total-requires : goal.total-of-total-requires
-total-of-total-requires c =
+pub total_of-total-requires : goal.total_of-total-requires
+total_of-total-requires c =
     let n = c.args.draft.now.lines in
     let same = sym c.rows.invariant.took.same_lines in
-    let row : c.rows.row < 2 ^ n = omega (arith, c.rows-test.true, c.but-last-row-end.ensures, c.count-count.ensures) in
+    let row : c.rows.row < 2 ^ n = omega (arith, c.rows-test.true, c.but_last-row-end.ensures, c.count-count.ensures) in
     let word : c.loop-word.word < 2 ^ n = omega (arith, c.loop-word-test.true, c.count-count.ensures) in
     record {
       row = subst (λ (m : ℕ). c.rows.row < 2 ^ m) same row;
@@ -40,25 +40,25 @@ loop-word-preserved c =
     let w = c.loop-word.word in
     let b = c.loop-word.best in
     let l = c.loop-word.least in
-    let r = c.total-of-total.result in
+    let r = c.total_of-total.result in
     let n = c.args.draft.now.lines in
     let here : w < 2 ^ n = omega (arith, c.loop-word-test.true, c.count-count.ensures) in
     let word : w < 2 ^ c.rows.draft.lines = subst (λ (m : ℕ). w < 2 ^ m) (sym c.rows.invariant.took.same_lines) here in
-    elim c.if-is-better.branch [
+    elim c.if-is_better.branch [
       | then-is-better v ↦ (
         subst (λ (k : ℕ). k < 2 ^ c.rows.draft.lines) (sym v.best-is) word,
-        look_better t 16 i w b l r _ _ c.loop-word.invariant.1 c.loop-word.auto.word c.total-of-total.ensures.is c.if-total-eq0.false
-            (ltb-true r l (sym v.if-is-better.ensures)) v.best-is v.least_is,
+        look_better t 16 i w b l r _ _ c.loop-word.invariant.1 c.loop-word.auto.word c.total_of-total.ensures.is c.if-total-eq0.false
+            (ltb-true r l (sym v.if-is_better.ensures)) v.best-is v.least_is,
       )
       | else-is-better v ↦ (
         subst (λ (k : ℕ). k < 2 ^ c.rows.draft.lines) (sym v.best-is) c.loop-word.invariant.0,
-        look_worse t 16 i w b l r _ _ c.loop-word.invariant.1 c.loop-word.auto.word c.total-of-total.ensures.is c.if-total-eq0.false
-            c.total-of-total.ensures.small (ltb-false r l (sym v.if-is-better.ensures)) v.best-is v.least_is,
+        look_worse t 16 i w b l r _ _ c.loop-word.invariant.1 c.loop-word.auto.word c.total_of-total.ensures.is c.if-total-eq0.false
+            c.total_of-total.ensures.small (ltb-false r l (sym v.if-is_better.ensures)) v.best-is v.least_is,
       )
     ]
 
-pub map-word-requires : goal.map-word-requires
-map-word-requires c =
+pub map_word-requires : goal.map_word-requires
+map_word-requires c =
     let d = c.args.draft.now in
     let b = c.args.book.now in
     let i = c.rows.row in
@@ -66,7 +66,7 @@ map-word-requires c =
     let b' = c.rows.book in
     let j = c.loop-word.best in
     let so = c.rows.invariant in
-    let more : i < 2 ^ d.lines - 1 = omega (arith, c.rows-test.true, c.but-last-row-end.ensures, c.count-count.ensures) in
+    let more : i < 2 ^ d.lines - 1 = omega (arith, c.rows-test.true, c.but_last-row-end.ensures, c.count-count.ensures) in
     let all : c.loop-word.word ≡ 2 ^ d.lines = omega (arith, c.loop-word-test.false, c.loop-word.auto.word-end, c.count-count.ensures) in
     let chosen = row_chosen d b i d' b' so more 16 c.loop-word.word j c.loop-word.least all c.loop-word.invariant.1 in
     record {
@@ -75,8 +75,8 @@ map-word-requires c =
       room = omega (arith, row_room d b i d' b' so more j chosen c.requires.room);
     }
 
-pub map-word-requires-in-rows : goal.map-word-requires-in-rows
-map-word-requires-in-rows c =
+pub map_word-requires-in-rows : goal.map_word-requires-in-rows
+map_word-requires-in-rows c =
     let d = c.args.draft.now in
     let b = c.args.book.now in
     let i = c.rows.row in
@@ -84,17 +84,17 @@ map-word-requires-in-rows c =
     let b' = c.rows.book in
     let j = c.loop-word.best in
     let so = c.rows.invariant in
-    let more : i < 2 ^ d.lines - 1 = omega (arith, c.rows-test.true, c.but-last-row-end.ensures, c.count-count.ensures) in
+    let more : i < 2 ^ d.lines - 1 = omega (arith, c.rows-test.true, c.but_last-row-end.ensures, c.count-count.ensures) in
     let all : c.loop-word.word ≡ 2 ^ d.lines = omega (arith, c.loop-word-test.false, c.loop-word.auto.word-end, c.count-count.ensures) in
     let chosen = row_chosen d b i d' b' so more 16 c.loop-word.word j c.loop-word.least all c.loop-word.invariant.1 in
-    let took = c.map-word.ensures in
-    let left = took_free (at_end Input (mapping j i)) d' b' c.map-word.new.draft c.map-word.new.book took in
+    let took = c.map_word.ensures in
+    let left = took_free (at_end Input (mapping j i)) d' b' c.map_word.new.draft c.map_word.new.book took in
     let is = sym c.at-image.ensures.is in
-    let room : length (mapping (image d' j) i) ≤ free c.map-word.new.book = omega (arith, row_room d b i d' b' so more j chosen c.requires.room, at_end_length Input (mapping j i)) in
+    let room : length (mapping (image d' j) i) ≤ free c.map_word.new.book = omega (arith, row_room d b i d' b' so more j chosen c.requires.room, at_end_length Input (mapping j i)) in
     record {
       order = subst (λ (y : ℕ). i ≤ y) is (image_above d b i d' b' so more j chosen);
       word = subst (λ (n : ℕ). c.at-image.result < 2 ^ n) (sym (took.same_lines ∙ so.took.same_lines)) (subst (λ (y : ℕ). y < 2 ^ d.lines) is (image_word d b i d' b' so more j chosen));
-      room = subst (λ (y : ℕ). length (mapping y i) ≤ free c.map-word.new.book) is room;
+      room = subst (λ (y : ℕ). length (mapping y i) ≤ free c.map_word.new.book) is room;
     }
 
 pub rows-preserved-then-total-eq0 : goal.rows-preserved-then-total-eq0
@@ -106,9 +106,9 @@ rows-preserved-then-total-eq0 c =
     let b' = c.rows.book in
     let w = c.loop-word.word in
     let so = c.rows.invariant in
-    let more : i < 2 ^ d.lines - 1 = omega (arith, c.rows-test.true, c.but-last-row-end.ensures, c.count-count.ensures) in
+    let more : i < 2 ^ d.lines - 1 = omega (arith, c.rows-test.true, c.but_last-row-end.ensures, c.count-count.ensures) in
     let word : w < 2 ^ d.lines = omega (arith, c.loop-word-test.true, c.count-count.ensures) in
-    let none : total (image d') i w ≡ 0 = sym c.total-of-total.ensures.is ∙ c.if-total-eq0.true in
+    let none : total (image d') i w ≡ 0 = sym c.total_of-total.ensures.is ∙ c.if-total-eq0.true in
     let chosen = zero_chosen d b i d' b' so more 16 w c.loop-word.best c.loop-word.least c.loop-word.invariant.1 c.loop-word.auto.word word none in
     row_free d b i d' b' so more w chosen none
 
@@ -121,20 +121,20 @@ rows-preserved c =
     let b' = c.rows.book in
     let j = c.loop-word.best in
     let so = c.rows.invariant in
-    let more : i < 2 ^ d.lines - 1 = omega (arith, c.rows-test.true, c.but-last-row-end.ensures, c.count-count.ensures) in
+    let more : i < 2 ^ d.lines - 1 = omega (arith, c.rows-test.true, c.but_last-row-end.ensures, c.count-count.ensures) in
     let all : c.loop-word.word ≡ 2 ^ d.lines = omega (arith, c.loop-word-test.false, c.loop-word.auto.word-end, c.count-count.ensures) in
     let chosen = row_chosen d b i d' b' so more 16 c.loop-word.word j c.loop-word.least all c.loop-word.invariant.1 in
-    let d₁ = c.map-word.new.draft in
-    let b₁ = c.map-word.new.book in
-    let d₂ = c.map-word-in-rows.new.draft in
-    let b₂ = c.map-word-in-rows.new.book in
-    row_put d b i d' b' so more j chosen d₁ b₁ d₂ b₂ c.map-word.ensures
-    (subst (λ (y : ℕ). Took d₁ b₁ (at_end Output (mapping y i)) d₂ b₂) c.at-image.ensures.is c.map-word-in-rows.ensures)
+    let d₁ = c.map_word.new.draft in
+    let b₁ = c.map_word.new.book in
+    let d₂ = c.map_word-in-rows.new.draft in
+    let b₂ = c.map_word-in-rows.new.book in
+    row_put d b i d' b' so more j chosen d₁ b₁ d₂ b₂ c.map_word.ensures
+    (subst (λ (y : ℕ). Took d₁ b₁ (at_end Output (mapping y i)) d₂ b₂) c.at-image.ensures.is c.map_word-in-rows.ensures)
 
 pub returns : goal.returns
 returns c =
     let d = c.args.draft.now in
-    let all : c.rows.row ≡ 2 ^ d.lines - 1 = omega (arith, c.rows-test.false, c.rows.auto.row-end, c.but-last-row-end.ensures, c.count-count.ensures) in
+    let all : c.rows.row ≡ 2 ^ d.lines - 1 = omega (arith, c.rows-test.false, c.rows.auto.row-end, c.but_last-row-end.ensures, c.count-count.ensures) in
     record {
       took = run_took d c.args.book.now c.rows.row c.rows.draft c.rows.book c.rows.invariant all;
       identity = run_identity d c.args.book.now c.rows.row c.rows.draft c.rows.book c.rows.invariant all;

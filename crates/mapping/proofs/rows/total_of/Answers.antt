@@ -10,7 +10,7 @@ returns c =
     let image = c.at.ensures.is in
     record {
       is = ap₂ (λ (p q : ℕ). p + q)
-          (c.mapping-len.ensures.is ∙ sym (weigh_length (mapping j i)))
-          (c.mapping-len-2.ensures.is ∙ ap (λ (y : ℕ). length (mapping y i)) image ∙ sym (weigh_length (mapping _ i)));
-      small = omega (arith, c.mapping-len.ensures.small, c.mapping-len-2.ensures.small);
+          (c.mapping_len.ensures.is ∙ sym (weigh_length (mapping j i)))
+          (c.mapping_len-2.ensures.is ∙ ap (λ (y : ℕ). length (mapping y i)) image ∙ sym (weigh_length (mapping _ i)));
+      small = omega (arith, c.mapping_len.ensures.small, c.mapping_len-2.ensures.small);
     }

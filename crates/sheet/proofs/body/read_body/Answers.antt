@@ -6,10 +6,10 @@ use Rattle.sheet.proofs.Accepted.{err_then}
 use Rattle.sheet.proofs.Holding.{filled}
 use Rattle.sheet.proofs.body.read_body.Goals as goal
 
-pub returns-in-err-check-body : goal.returns-in-err-check-body
-returns-in-err-check-body c =
-    let p = err_from_is_err_and c.from-residual.result c.from-residual.ensures.1 in
-    let stop = sym c.check-body.ensures ∙ c.in-err-check-body.was in
+pub returns-in-err-check_body : goal.returns-in-err-check_body
+returns-in-err-check_body c =
+    let p = err_from_is_err_and c.from_residual.result c.from_residual.ensures.1 in
+    let stop = sym c.check_body.ensures ∙ c.in-err-check_body.was in
     let held = err_then (held_by c.args.body) (λ (es : List Entry). length es) _ stop in
     record {
       answer = p.1 ∙ ap Err p.2 ∙ sym stop;
@@ -19,10 +19,10 @@ returns-in-err-check-body c =
 
 pub returns : goal.returns
 returns c =
-    let fine = c.read-lines.ensures.answer ∙ sym c.check-body.ensures ∙ c.in-ok-check-body.was in
-    let laid = subst (λ r. Fills r (held_by c.args.body) c.args.entries.now c.read-lines.new.entries) fine c.read-lines.ensures.entries in
+    let fine = c.read_lines.ensures.answer ∙ sym c.check_body.ensures ∙ c.in-ok-check_body.was in
+    let laid = subst (λ r. Fills r (held_by c.args.body) c.args.entries.now c.read_lines.new.entries) fine c.read_lines.ensures.entries in
     record {
-      answer = c.read-lines.ensures.answer;
+      answer = c.read_lines.ensures.answer;
       entries = laid;
-      filled = subst (Filled c.read-lines.result (held_by c.args.body)) (sym laid) (filled c.read-lines.result (held_by c.args.body) c.args.entries.now c.read-lines.ensures.answer);
+      filled = subst (Filled c.read_lines.result (held_by c.args.body)) (sym laid) (filled c.read_lines.result (held_by c.args.body) c.args.entries.now c.read_lines.ensures.answer);
     }

@@ -16,10 +16,10 @@ loop-at-init c = ([], refl, rw sub-zero (after_none _), laid_none _)
 pub returns-in-err-entry : goal.returns-in-err-entry
 returns-in-err-entry c =
     let b = c.args.body in
-    let p = err_from_is_err_and c.from-residual.result c.from-residual.ensures.1 in
+    let p = err_from_is_err_and c.from_residual.result c.from_residual.ensures.1 in
     let inv = c.loop-at.invariant in
     let stop = body_stop b.kind b.lines b.first _ inv.0 c.loop-at.at b.count _ inv.2 c.loop-at-test.true _ c.in-err-entry.ensures in
-    rw (p.1, p.2) (record { answer = sym (ap how_many (held_stop b.kind b.lines b.count b.first b.part.now (sym c.if-not-is-told.ensures) _ stop)); entries = tt })
+    rw (p.1, p.2) (record { answer = sym (ap how_many (held_stop b.kind b.lines b.count b.first b.part.now (sym c.if-not-is_told.ensures) _ stop)); entries = tt })
 
 pub loop-at-preserved : goal.loop-at-preserved
 loop-at-preserved c =
@@ -32,19 +32,19 @@ loop-at-preserved c =
       c.lay.ensures ∙ (λ j. set (inv.3 j) (sym inv.1 j) entry) ∙ laid_more c.args.entries.now inv.0 entry,
     )
 
-pub returns-then-not-is-empty : goal.returns-then-not-is-empty
-returns-then-not-is-empty c =
+pub returns-then-not-is_empty : goal.returns-then-not-is_empty
+returns-then-not-is_empty c =
     let b = c.args.body in
     let inv = c.loop-at.invariant in
     let end = body_end b.kind b.lines b.first _ inv.0 c.loop-at.at b.count _ inv.2 c.loop-at-test.false in
-    let over = held_over b.kind b.lines b.count b.first b.part.now (sym c.if-not-is-told.ensures) inv.0 c.loop-at.rest.now end (eqb-false _ 0 (sym c.if-not-is-empty.ensures)) in
-    record { answer = ap Err (c.in-body-then-not-is-empty.ensures ∙ ap (λ i. fault WrongForm i Body) c.line-number.ensures) ∙ sym (ap how_many over); entries = tt }
+    let over = held_over b.kind b.lines b.count b.first b.part.now (sym c.if-not-is_told.ensures) inv.0 c.loop-at.rest.now end (eqb-false _ 0 (sym c.if-not-is_empty.ensures)) in
+    record { answer = ap Err (c.in_body-then-not-is_empty.ensures ∙ ap (λ i. fault WrongForm i Body) c.line_number.ensures) ∙ sym (ap how_many over); entries = tt }
 
 pub returns : goal.returns
 returns c =
     let b = c.args.body in
     let inv = c.loop-at.invariant in
     let end = body_end b.kind b.lines b.first _ inv.0 c.loop-at.at b.count _ inv.2 c.loop-at-test.false in
-    let held = held_all b.kind b.lines b.count b.first b.part.now (sym c.if-not-is-told.ensures) inv.0 c.loop-at.rest.now end (eqb-true _ 0 (sym c.if-not-is-empty.ensures)) in
+    let held = held_all b.kind b.lines b.count b.first b.part.now (sym c.if-not-is_told.ensures) inv.0 c.loop-at.rest.now end (eqb-true _ 0 (sym c.if-not-is_empty.ensures)) in
     let long : b.count ≡ length inv.0 = omega (arith, inv.1) in
     record { answer = ap Ok long ∙ sym (ap how_many held); entries = inv.3 ∙ sym (ap (λ z. laid_by z c.args.entries.now) held) }

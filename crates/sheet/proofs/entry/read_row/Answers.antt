@@ -11,7 +11,7 @@ loop-i-init c = (ap bits (drop_all (length c.args.line.now) c.args.line.now (ome
 
 pub loop-i-preserved : goal.loop-i-preserved
 loop-i-preserved c =
-    let digit = sym c.read-bit.ensures ∙ c.in-Some.is in
+    let digit = sym c.read_bit.ensures ∙ c.in-Some.is in
     let l = c.args.line.now in (
       bits_more l _ c.loop-i-test.true c.loop-i.auto.i _ _ digit c.loop-i.invariant.0,
       bit_fits l _ c.loop-i-test.true c.loop-i.auto.i _ _ digit c.loop-i.invariant.1,
@@ -20,7 +20,7 @@ loop-i-preserved c =
 pub returns-in-default : goal.returns-in-default
 returns-in-default c =
     let l = c.args.line.now in
-    let none = bits_other l _ c.loop-i-test.true c.loop-i.auto.i (sym c.read-bit.ensures ∙ c.in-default.is) in
+    let none = bits_other l _ c.loop-i-test.true c.loop-i.auto.i (sym c.read_bit.ensures ∙ c.in-default.is) in
     sym (cond-true _ _ _ (eq-eqb _ _ c.if-line-n.false) ∙ ap row_of (bits_none l _ none))
 
 pub returns : goal.returns

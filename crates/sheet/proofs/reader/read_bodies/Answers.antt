@@ -18,12 +18,12 @@ small : (c : In-ok-item) → c.in-ok-item.item.contents.count < 100000
 unfolding none
 small c = omega (arith, ap (λ z. z.contents.count) c.in-ok-item.ensures.item, (every_at Sound c.args.contents.now c.loop-i.i none c.requires.1.0 c.loop-i-test.true).1)
 
-pub next-item-requires : goal.next-item-requires
-next-item-requires c = (every_at Sound c.args.contents.now _ _ c.requires.1.0 c.loop-i-test.true, (omega arith, c.loop-i.invariant.3))
+pub next_item-requires : goal.next_item-requires
+next_item-requires c = (every_at Sound c.args.contents.now _ _ c.requires.1.0 c.loop-i-test.true, (omega arith, c.loop-i.invariant.3))
 
 pub returns-in-err-item : goal.returns-in-err-item
 returns-in-err-item c =
-    let p = err_from_is_err_and c.from-residual.result c.from-residual.ensures.1 in
+    let p = err_from_is_err_and c.from_residual.result c.from_residual.ensures.1 in
     ap items_of p.1 ∙ ap Err p.2
     ∙ sym (places_stop _ _ c.args.contents.now _ _ _ c.args.sheet.now c.loop-i.invariant.0 c.loop-i-test.true _ _ c.in-err-item.ensures)
 
@@ -42,7 +42,7 @@ loop-i-preserved c =
 
 pub returns-then-start-sheet : goal.returns-then-start-sheet
 returns-then-start-sheet c =
-    ap Err c.in-body.ensures ∙ sym (places_over _ _ c.args.contents.now _ _ _ c.args.sheet.now c.loop-i.invariant.0 c.loop-i-test.false c.if-start-sheet.true)
+    ap Err c.in_body.ensures ∙ sym (places_over _ _ c.args.contents.now _ _ _ c.args.sheet.now c.loop-i.invariant.0 c.loop-i-test.false c.if-start-sheet.true)
 
 pub returns : goal.returns
 returns c =

@@ -9,7 +9,7 @@ use Rattle.sheet.proofs.reader.read_contents_lines.Goals as goal
 
 pub returns-in-err-item : goal.returns-in-err-item
 returns-in-err-item c =
-    let p = err_from_is_err_and c.from-residual.result c.from-residual.ensures.1 in
+    let p = err_from_is_err_and c.from_residual.result c.from_residual.ensures.1 in
     rw (p.1, p.2) (contents_stop _ _ (c.args.k - c.loop-i.i) (c.args.k - (c.loop-i.i + 1)) _ _ _ (omega arith) c.loop-i.invariant.0 _ c.in-err-item.ensures)
 
 pub overflow-add-first-in-loop-i : goal.overflow-add-first-in-loop-i

@@ -8,35 +8,35 @@ use Rattle.sheet.proofs.Entire.{length_stop, head_stop, contents_stop, tail_shor
 use Rattle.sheet.proofs.ValidBack.{lawful}
 use Rattle.sheet.proofs.reader.read_sheet.Goals as goal
 
-pub returns-then-not-has-length : goal.returns-then-not-has-length
-returns-then-not-has-length c =
-    let p = ap Err c.in-contents.ensures ∙ length_stop c.args.sheet.now (sym c.if-not-has-length.ensures) in
+pub returns-then-not-has_length : goal.returns-then-not-has_length
+returns-then-not-has_length c =
+    let p = ap Err c.in_contents.ensures ∙ length_stop c.args.sheet.now (sym c.if-not-has_length.ensures) in
     record { reads = p; law = lawful c.args.sheet.now _ p }
 
 pub returns-in-err-count : goal.returns-in-err-count
 returns-in-err-count c =
-    let e = err_from_is_err_and c.from-residual.result c.from-residual.ensures.1 in
-    let p = ap items_of e.1 ∙ ap Err e.2 ∙ head_stop c.args.sheet.now (sym c.if-not-has-length.ensures) _ c.in-err-count.ensures in
+    let e = err_from_is_err_and c.from_residual.result c.from_residual.ensures.1 in
+    let p = ap items_of e.1 ∙ ap Err e.2 ∙ head_stop c.args.sheet.now (sym c.if-not-has_length.ensures) _ c.in-err-count.ensures in
     record { reads = p; law = lawful c.args.sheet.now _ p }
 
 pub returns-in-err-contents : goal.returns-in-err-contents
 returns-in-err-contents c =
-    let e = err_from_is_err_and c.from-residual-in-err-contents.result c.from-residual-in-err-contents.ensures.1 in
-    let p = ap items_of e.1 ∙ ap Err e.2 ∙ contents_stop c.args.sheet.now (sym c.if-not-has-length.ensures) _ c.in-ok-count.rest.now c.in-ok-count.ensures _ c.in-err-contents.ensures in
+    let e = err_from_is_err_and c.from_residual-in-err-contents.result c.from_residual-in-err-contents.ensures.1 in
+    let p = ap items_of e.1 ∙ ap Err e.2 ∙ contents_stop c.args.sheet.now (sym c.if-not-has_length.ensures) _ c.in-ok-count.rest.now c.in-ok-count.ensures _ c.in-err-contents.ensures in
     record { reads = p; law = lawful c.args.sheet.now _ p }
 
 pub overflow-sub-sheet : goal.overflow-sub-sheet
 overflow-sub-sheet c =
-    tail_short c.args.sheet.now (sym c.if-not-has-length.ensures) _ c.in-ok-count.rest.now c.in-ok-count.ensures _ c.in-ok-contents.bodies.now c.in-ok-contents.ensures
+    tail_short c.args.sheet.now (sym c.if-not-has_length.ensures) _ c.in-ok-count.rest.now c.in-ok-count.ensures _ c.in-ok-contents.bodies.now c.in-ok-contents.ensures
 
-pub read-bodies-requires : goal.read-bodies-requires
-read-bodies-requires c =
+pub read_bodies-requires : goal.read_bodies-requires
+read_bodies-requires c =
     let k = head_small (pieces 10 c.args.sheet.now) _ _ c.in-ok-count.ensures in
     let s = contents_lines_sound _ 2 _ (pieces 10 c.in-ok-count.rest.now) _ _ c.in-ok-contents.ensures in
     rw sub-zero (omega (arith, s.0, k.1), (s.1, omega arith))
 
 pub returns : goal.returns
 returns c =
-    let placed = sheet_placed c.args.sheet.now (sym c.if-not-has-length.ensures) _ c.in-ok-count.rest.now c.in-ok-count.ensures _ c.in-ok-contents.bodies.now c.in-ok-contents.ensures in
-    let p = (rw sub-zero at c.read-bodies.ensures) ∙ placed in
+    let placed = sheet_placed c.args.sheet.now (sym c.if-not-has_length.ensures) _ c.in-ok-count.rest.now c.in-ok-count.ensures _ c.in-ok-contents.bodies.now c.in-ok-contents.ensures in
+    let p = (rw sub-zero at c.read_bodies.ensures) ∙ placed in
     record { reads = p; law = lawful c.args.sheet.now _ p }

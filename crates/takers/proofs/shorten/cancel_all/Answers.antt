@@ -4,8 +4,8 @@ use Rattle.takers.specs.Cancellers.{cancelling}
 use Rattle.takers.proofs.Feeding.{next_legal, next_fits, fed_more}
 use Rattle.takers.proofs.shorten.cancel_all.Goals as goal
 
-pub cancel-one-requires : goal.cancel-one-requires
-cancel-one-requires g c =
+pub cancel_one-requires : goal.cancel_one-requires
+cancel_one-requires g c =
     let K = g.G.Gate.kind in
     let m = cancelling K g.T.Taker.meaning c.args.canceller.now in
     let a = cancelling K g.T.Taker.meaning c.loop-gate.canceller in
@@ -20,8 +20,8 @@ loop-gate-preserved g c =
     let K = g.G.Gate.kind in
     let meaning = cancelling K g.T.Taker.meaning in (
       fed_more K (meaning c.args.canceller.now) c.args.gates.now c.loop-gate.gate-index c.gate-item.result c.loop-gate-test.true c.gate-item.is
-          (meaning c.loop-gate.canceller) c.loop-gate.invariant.0 (meaning c.cancel-one.new.canceller) c.cancel-one.ensures.fed,
-      c.cancel-one.ensures.sendable,
+          (meaning c.loop-gate.canceller) c.loop-gate.invariant.0 (meaning c.cancel_one.new.canceller) c.cancel_one.ensures.fed,
+      c.cancel_one.ensures.sendable,
     )
 
 pub returns : goal.returns

@@ -5,12 +5,12 @@ use Rattle.answers.specs.Laid.{Puts}
 use Rattle.answers.proofs.Laying.{puts_then}
 use Rattle.answers.proofs.draft.Draft.lay.Goals as goal
 
-pub put-bytes-requires : goal.put-bytes-requires
-put-bytes-requires c =
+pub put_bytes-requires : goal.put_bytes-requires
+put_bytes-requires c =
     let d = c.args.self.now in
-    omega (arith, c.put-heading-end.ensures.short, ap length c.text.ensures, length-take d.size d.bodies, d.room)
+    omega (arith, c.put_heading-end.ensures.short, ap length c.text.ensures, length-take d.size d.bodies, d.room)
 
 pub returns : goal.returns
 returns c =
-    subst (λ bs. Puts c.args.out.now 0 bs c.put-bytes.result c.put-bytes.new.out) (λ j. lines_text (heading (c.heads.ensures j)) ++ c.text.ensures j)
-    (puts_then c.args.out.now c.put-heading-end.new.out _ 0 _ _ _ _ c.put-heading-end.ensures.puts c.put-bytes.ensures)
+    subst (λ bs. Puts c.args.out.now 0 bs c.put_bytes.result c.put_bytes.new.out) (λ j. lines_text (heading (c.heads.ensures j)) ++ c.text.ensures j)
+    (puts_then c.args.out.now c.put_heading-end.new.out _ 0 _ _ _ _ c.put_heading-end.ensures.puts c.put_bytes.ensures)

@@ -8,13 +8,13 @@ pub loop-d-preserved : goal.loop-d-preserved
 loop-d-preserved c =
     let p = c.args.self.now in
     let l = c.loop-d in
-    elim c.if-not-is-solved.branch [
+    elim c.if-not-is_solved.branch [
       | then-not-is-solved w ↦
-          lining_yes p.lines (state_of p) l.best l.d l.invariant c.loop-d-test.true c.if-not-is-solved.best w.try-line-best.result
-          (sym c.is-solved.ensures ∙ w.if-not-is-solved.true) w.try-line-best.ensures.value w.try-line-best.ensures.remembers w.best-is
+          lining_yes p.lines (state_of p) l.best l.d l.invariant c.loop-d-test.true c.if-not-is_solved.best w.try_line-best.result
+          (sym c.is_solved.ensures ∙ w.if-not-is_solved.true) w.try_line-best.ensures.value w.try_line-best.ensures.remembers w.best-is
       | else-not-is-solved w ↦
-          lining_no p.lines (state_of p) l.best l.d l.invariant c.loop-d-test.true c.if-not-is-solved.best
-          (sym c.is-solved.ensures ∙ w.if-not-is-solved.false) w.best-is
+          lining_no p.lines (state_of p) l.best l.d l.invariant c.loop-d-test.true c.if-not-is_solved.best
+          (sym c.is_solved.ensures ∙ w.if-not-is_solved.false) w.best-is
     ]
 
 pub returns : goal.returns

@@ -29,11 +29,11 @@ loop-i-preserved c =
     let count = ap (λ (m : ℕ). solved pairs m (state_of l.self) i) l.invariant.0.lines in
     elim c.if-i-d.branch [
       | then-i-d+then-not-is-solved x ↦
-          let one = x.try-gate in
-          let two = x.try-gate-then-not-is-solved in (
+          let one = x.try_gate in
+          let two = x.try_gate-then-not-is_solved in (
             more c.if-i-d.self c.if-i-d.gates (subst Sound (sym x.self-is) two.ensures.sound)
                 (ap (λ (q : Pair). q.lines) x.self-is ∙ two.ensures.lines ∙ one.ensures.lines ∙ l.invariant.0.lines)
-                (greedy_yes n d i (n - (i + 1)) w _ x.if-i-d.true (sym count ∙ sym x.is-solved.ensures ∙ x.if-not-is-solved.true)
+                (greedy_yes n d i (n - (i + 1)) w _ x.if-i-d.true (sym count ∙ sym x.is_solved.ensures ∙ x.if-not-is_solved.true)
                 (try_both (adding Output i d) (adding Input i d) w (work_of one.new.self one.new.gates) (work_of two.new.self two.new.gates) _
                 one.ensures.work two.ensures.work (works_same x.self-is x.gates-is))),
             omega (arith, ap (λ (f : Found). f.count) x.gates-is, l.invariant.1, one.ensures.few, two.ensures.few),
@@ -43,7 +43,7 @@ loop-i-preserved c =
             (ap (λ (q : Pair). q.lines) x.self-is ∙ l.invariant.0.lines)
             (greedy_no n d i (n - (i + 1)) w _
             (elim x.else-i-d.branch [
-              | else-i-d-via-then-i-d+else-not-is-solved y ↦ or_right _ _ (sym count ∙ sym y.is-solved.ensures ∙ y.if-not-is-solved.false)
+              | else-i-d-via-then-i-d+else-not-is-solved y ↦ or_right _ _ (sym count ∙ sym y.is_solved.ensures ∙ y.if-not-is_solved.false)
               | else-i-d-via-else-i-d y ↦ or_left _ _ (eq-eqb i d y.if-i-d.false)
             ])
             (works_same x.self-is x.gates-is)),

@@ -3,16 +3,16 @@ use Rattle.std.proofs.lemmas.Bool.{and_left}
 use Rattle.elimination.proofs.States.{solved_is}
 use Rattle.elimination.proofs.pair.Pair.is_solved.Goals as goal
 
-pub returns-then-is-unit : goal.returns-then-is-unit
-returns-then-is-unit c =
-    ap (λ (b : Bool). b && c.is-unit-then-is-unit.result) (sym c.if-is-unit.true)
-    ∙ ap₂ (λ (a b : Bool). a && b) c.is-unit.ensures c.is-unit-then-is-unit.ensures
+pub returns-then-is_unit : goal.returns-then-is_unit
+returns-then-is_unit c =
+    ap (λ (b : Bool). b && c.is_unit-then-is_unit.result) (sym c.if-is_unit.true)
+    ∙ ap₂ (λ (a b : Bool). a && b) c.is_unit.ensures c.is_unit-then-is_unit.ensures
     ∙ solved_is c.args.self.now c.requires.sound c.args.d c.requires.inside
 
-pub returns-else-is-unit : goal.returns-else-is-unit
-returns-else-is-unit c =
+pub returns-else-is_unit : goal.returns-else-is_unit
+returns-else-is_unit c =
     let p = c.args.self.now in
-    let off : eqb (get_or p.rows.first c.args.d 0) (2 ^ c.args.d) ≡ false = sym c.is-unit.ensures ∙ c.if-is-unit.false in
-    c.if-is-unit.false
+    let off : eqb (get_or p.rows.first c.args.d 0) (2 ^ c.args.d) ≡ false = sym c.is_unit.ensures ∙ c.if-is_unit.false in
+    c.if-is_unit.false
     ∙ sym (and_left (eqb (get_or p.rows.first c.args.d 0) (2 ^ c.args.d)) (eqb (get_or p.columns.first c.args.d 0) (2 ^ c.args.d)) off)
     ∙ solved_is c.args.self.now c.requires.sound c.args.d c.requires.inside

@@ -19,7 +19,7 @@ returns-then-at c = record {
 pub returns-in-Some : goal.returns-in-Some
 returns-in-Some c =
     let p = c.args.self.now in
-    let b = c.best-pivot.ensures in
+    let b = c.best_pivot.ensures in
     let x = c.in-Some.choice in
     let w' = work_of c.keep.new.self c.keep.new.gates in
     record {
@@ -28,13 +28,13 @@ returns-in-Some c =
       few = omega (arith, c.keep.ensures.count);
       work = lit_now p.lines c.args.d (work_of p c.args.gates.now) w' (gate_of c.args.d (Some x)) (sym c.at.ensures ∙ c.if-at.false)
           c.in-Some.ensures.value
-          (put_same (adding x.end x.from c.args.d) c.args.gates.now p c.best-pivot.new.self w' w' b.same refl c.keep.ensures.work);
+          (put_same (adding x.end x.from c.args.d) c.args.gates.now p c.best_pivot.new.self w' w' b.same refl c.keep.ensures.work);
     }
 
 pub returns-in-default : goal.returns-in-default
 returns-in-default c =
     let p = c.args.self.now in
-    let b = c.best-pivot.ensures in
+    let b = c.best_pivot.ensures in
     record {
       sound = subst Sound (sym b.same) c.requires.sound;
       lines = ap (λ (q : Pair). q.lines) b.same;

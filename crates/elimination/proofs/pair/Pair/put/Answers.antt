@@ -10,7 +10,7 @@ pub returns-in-Output : goal.returns-in-Output
 returns-in-Output c =
     let p = c.args.self.now in
     let e = c.in-Output.is in
-    let k = c.cost-after-self in
+    let k = c.cost_after-self in
     let r = put_output p c.requires.sound c.args.from c.args.to c.requires.from c.requires.to c.requires.apart k.new.self k.ensures.same k.result
     (k.ensures.value ∙ ap (λ (e : End). cost (pairs.place (adding e c.args.from c.args.to) (state_of p))) e)
     c.add.new.self c.spread.new.self c.add.ensures c.spread.ensures in
@@ -24,7 +24,7 @@ pub returns-in-Input : goal.returns-in-Input
 returns-in-Input c =
     let p = c.args.self.now in
     let e = c.in-Input.is in
-    let k = c.cost-after-self in
+    let k = c.cost_after-self in
     let r = put_input p c.requires.sound c.args.from c.args.to c.requires.from c.requires.to c.requires.apart k.new.self k.ensures.same k.result
     (k.ensures.value ∙ ap (λ (e : End). cost (pairs.place (adding e c.args.from c.args.to) (state_of p))) e)
     c.add-in-Input.new.self c.spread-in-Input.new.self c.add-in-Input.ensures c.spread-in-Input.ensures in

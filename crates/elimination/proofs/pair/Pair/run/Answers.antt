@@ -25,8 +25,8 @@ loop-best-smaller c =
     let is : work_of a.new.self a.result ≡ trial_of n s d = a.ensures.work ∙ ap (λ (k : ℕ). trial_of k s d) l.invariant.1 in
     fewer_left n c.requires.sound.few (state_of p) c.args.book.now s l.book l.invariant.2 d chosen (state_of a.new.self) (found a.result) is
 
-pub write-down-requires : goal.write-down-requires
-write-down-requires c =
+pub write_down-requires : goal.write_down-requires
+write_down-requires c =
     let p = c.args.self.now in
     let l = c.loop-best in
     let n = p.lines in
@@ -48,11 +48,11 @@ loop-best-preserved c =
     let a = c.clear-gates in
     let chosen : Some d ≡ best_line n s None 0 n = c.in-Some.ensures.value ∙ ap (λ (k : ℕ). best_line k s None 0 k) l.invariant.1 in
     let is : work_of a.new.self a.result ≡ trial_of n s d = a.ensures.work ∙ ap (λ (k : ℕ). trial_of k s d) l.invariant.1 in
-    let w = c.write-down.ensures in (
+    let w = c.write_down.ensures in (
       a.ensures.sound,
       a.ensures.lines ∙ l.invariant.1,
       running_more n c.requires.sound.few (state_of p) c.args.book.now s l.book l.invariant.2 d chosen (state_of a.new.self) (found a.result) is
-          c.write-down.new.book c.gates.result.now c.requires.room c.gates.ensures w.ends w.free w.kept,
+          c.write_down.new.book c.gates.result.now c.requires.room c.gates.ensures w.ends w.free w.kept,
     )
 
 pub returns : goal.returns

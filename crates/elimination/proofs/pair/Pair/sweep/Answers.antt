@@ -23,7 +23,7 @@ loop-i-preserved c =
     let more = doing_more (sweep_at pairs e d) n w₀ l.self l.gates i l.invariant.0 c.loop-i-test.true in
     elim c.if-i-d.branch [
       | then-i-d+then-at x ↦
-          let bh = x.best-helper-j in
+          let bh = x.best_helper-j in
           let k = x.keep in
           let w' = work_of c.if-i-d.self c.if-i-d.gates in
           let put_is : w' ≡ put pairs (adding e bh.result i) w =

@@ -24,12 +24,12 @@ returns-in-TakeBack g c =
     let K = g.G.Gate.kind in
     let meaning = g.P.Piece.meaning in
     let p = c.args.piece.now in
-    let p' = c.take-back.new.piece in
+    let p' = c.take_back.new.piece in
     let b = c.args.book.now in
-    let b' = c.take-back.new.book in
-    let r = c.take-back.result in
+    let b' = c.take_back.new.book in
+    let r = c.take_back.result in
     let is = sym c.in-TakeBack.is in
     record {
-      answer = subst (λ x. r ≡ answer (against K c.args.self.now.lines (meaning p).lines (places b) x (ends b))) is c.take-back.ensures.answer;
-      after = subst (λ x. MatchResult r (λ _. Edited K x (meaning p) b (meaning p') b') (λ _. (p' ≡ p) × (b' ≡ b))) is c.take-back.ensures.after;
+      answer = subst (λ x. r ≡ answer (against K c.args.self.now.lines (meaning p).lines (places b) x (ends b))) is c.take_back.ensures.answer;
+      after = subst (λ x. MatchResult r (λ _. Edited K x (meaning p) b (meaning p') b') (λ _. (p' ≡ p) × (b' ≡ b))) is c.take_back.ensures.after;
     }

@@ -4,11 +4,11 @@ use Rattle.books.specs.Books.{free}
 use Rattle.job.proofs.Edits.{put_declined, put_given, put_answer, put_done}
 use Rattle.job.proofs.ticket.Ticket.put.Goals as goal
 
-pub returns-then-too-few : goal.returns-then-too-few
-returns-then-too-few g c = record {
+pub returns-then-too_few : goal.returns-then-too_few
+returns-then-too_few g c = record {
   answer = put_declined g.G.Gate.kind c.args.self.now.lines (g.P.Piece.meaning c.args.piece.now) c.args.book.now c.args.end
-      (c.if-self-lines.false ∙ c.lines.ensures.count) c.args.gate c.if-not-is-legal.ensures c.free-free.result c.free-free.ensures
-      c.if-too-few.ensures;
+      (c.if-self-lines.false ∙ c.lines.ensures.count) c.args.gate c.if-not-is_legal.ensures c.free-free.result c.free-free.ensures
+      c.if-too_few.ensures;
   after = (refl, refl);
 }
 
@@ -22,14 +22,14 @@ returns g c =
     let b = c.args.book.now in
     let b' = c.push.new.self in
     let same = c.if-self-lines.false ∙ c.lines.ensures.count in
-    let room : 1 ≤ free b = subst (λ k. 1 ≤ k) c.free-free.ensures (ltb-false c.free-free.result 1 (sym c.if-too-few.ensures)) in
+    let room : 1 ≤ free b = subst (λ k. 1 ≤ k) c.free-free.ensures (ltb-false c.free-free.result 1 (sym c.if-too_few.ensures)) in
     record {
-      answer = put_answer K n m b c.args.end same c.args.gate c.if-not-is-legal.ensures c.push.result c.push.ensures.answer;
-      after = put_done K n m b c.args.end same c.args.gate c.if-not-is-legal.ensures c.push.result c.push.ensures.answer
+      answer = put_answer K n m b c.args.end same c.args.gate c.if-not-is_legal.ensures c.push.result c.push.ensures.answer;
+      after = put_done K n m b c.args.end same c.args.gate c.if-not-is_legal.ensures c.push.result c.push.ensures.answer
           (g.P.Piece.meaning p') b' ((p' ≡ p) × (b' ≡ b)) room c.in-ok-give.ensures.after c.push.ensures.after c.push.ensures.kept;
     }
 
 pub returns-in-err-give : goal.returns-in-err-give
 returns-in-err-give g c =
     absurd (put_given g.G.Gate.kind c.args.self.now.lines (g.P.Piece.meaning c.args.piece.now) c.args.book.now c.args.end
-    (c.if-self-lines.false ∙ c.lines.ensures.count) c.args.gate c.if-not-is-legal.ensures _ c.in-err-give.ensures.answer)
+    (c.if-self-lines.false ∙ c.lines.ensures.count) c.args.gate c.if-not-is_legal.ensures _ c.in-err-give.ensures.answer)

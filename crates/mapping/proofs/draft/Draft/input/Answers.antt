@@ -8,7 +8,7 @@ loop-word-init c =
     let t = c.args.self.now in
     let g = c.args.gate in
     let m = bit_or g.controls (2 ^ g.target) in
-    let start = sym c.gate-lines-word.ensures in (
+    let start = sym c.gate_lines-word.ensures in (
       refl,
       subst (λ (w : ℕ). bit_and w m ≡ m) start (and_self m),
       subst (Exchanged t.lines g t.images t.images) start (none_exchanged t.lines g c.requires t.images),
@@ -28,7 +28,7 @@ exchange-requires c =
     }
 
 pub loop-word-smaller : goal.loop-word-smaller
-loop-word-smaller c = omega (arith, next_above c.loop-word.word c.gate-lines.result, c.loop-word-test.true)
+loop-word-smaller c = omega (arith, next_above c.loop-word.word c.gate_lines.result, c.loop-word-test.true)
 
 pub loop-word-preserved : goal.loop-word-preserved
 loop-word-preserved c =
@@ -38,7 +38,7 @@ loop-word-preserved c =
     let g = c.args.gate in
     let w = c.loop-word.word in
     let m = bit_or g.controls (2 ^ g.target) in
-    let lines = sym c.gate-lines.ensures in
+    let lines = sym c.gate_lines.ensures in
     let word : w < 2 ^ n = omega (arith, c.loop-word-test.true, c.count-count.ensures) in
     let long : 2 ^ n ≤ length u.images = omega (arith, words_few n t.few, u.full) in
     let swapped : ℕ → List ℕ = λ v. set (set u.images w (get_or u.images (bit_xor w v) 0)) (bit_xor w v) (get_or u.images w 0) in

@@ -10,8 +10,8 @@ loop-d-init c =
     let m = c.args.self.now in
     (step_none (record { left = m; made = c.units.result }), solved_none m c.in-default.ensures)
 
-pub clear-column-requires : goal.clear-column-requires
-clear-column-requires c =
+pub clear_column-requires : goal.clear_column-requires
+clear_column-requires c =
     let start : Solving = record { left = c.args.self.now; made = c.units.result } in
     let step = c.loop-d.invariant.0 in
     record {
@@ -23,8 +23,8 @@ clear-column-requires c =
 pub loop-d-preserved : goal.loop-d-preserved
 loop-d-preserved c =
     let start : Solving = record { left = c.args.self.now; made = c.units.result } in
-    let column = c.clear-column.ensures in
-    (step_more start c.loop-d.solving c.clear-column.new.self c.loop-d.invariant.0 column.stepped, column.solved)
+    let column = c.clear_column.ensures in
+    (step_more start c.loop-d.solving c.clear_column.new.self c.loop-d.invariant.0 column.stepped, column.solved)
 
 pub returns : goal.returns
 returns c =

@@ -6,12 +6,12 @@ pub invariant-of-self : goal.invariant-of-self
 invariant-of-self c =
     let m = c.args.self.now in
     let g = c.args.gate in
-    let held = c.add-row.new.rows in
-    let is = c.add-row.ensures in
+    let held = c.add_row.new.rows in
+    let is = c.add_row.ensures in
     (m.some, (m.few, (output_full m g c.requires held is, (output_below m g c.requires held is, tt))))
 
 pub returns : goal.returns
 returns c = record {
   lines = refl;
-  rows = output_rows c.args.self.now c.args.gate c.requires c.add-row.new.rows c.add-row.ensures;
+  rows = output_rows c.args.self.now c.args.gate c.requires c.add_row.new.rows c.add_row.ensures;
 }

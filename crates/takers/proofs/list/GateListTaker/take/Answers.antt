@@ -9,7 +9,7 @@ returns g c =
     let K = g.G.Gate.kind in
     let room : l.used < length l.places.now = omega arith in
     record {
-      answer = accepted (K.legal l.lines c.args.gate) 1 (length l.places.now - l.used) c.if-not-is-legal.ensures (omega arith);
+      answer = accepted (K.legal l.lines c.args.gate) 1 (length l.places.now - l.used) c.if-not-is_legal.ensures (omega arith);
       after = pushed_feeds K l c.args.gate room c.push.new.self c.push.ensures;
       gates = pushed K l c.args.gate room c.push.new.self c.push.ensures;
     }

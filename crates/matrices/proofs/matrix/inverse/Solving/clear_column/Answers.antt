@@ -21,19 +21,19 @@ no_other i d b l h ne = grind (arith, nat_tests)
 
 pub loop-i-init : goal.loop-i-init
 loop-i-init c =
-    let set = c.set-pivot.ensures in
-    (step_none c.set-pivot.new.self, record { solved = set.solved; one = set.one; zeros = λ k l. absurd (omega arith) })
+    let set = c.set_pivot.ensures in
+    (step_none c.set_pivot.new.self, record { solved = set.solved; one = set.one; zeros = λ k l. absurd (omega arith) })
 
 pub add-requires : goal.add-requires
 add-requires c =
-    let start = c.set-pivot.new.self in
+    let start = c.set_pivot.new.self in
     let s = c.loop-i.self in
-    let set = c.set-pivot.ensures.stepped in
+    let set = c.set_pivot.ensures.stepped in
     let step = c.loop-i.invariant.0 in
     let d = c.args.d in
     let i = c.loop-i.i in
     let g : Cnot = record { control = d; target = i } in
-    let other = is_other i d (bit (get_or s.left.rows i 0) d) c.if-has-other.ensures in
+    let other = is_other i d (bit (get_or s.left.rows i 0) d) c.if-has_other.ensures in
     record {
       legal = legal_when s.left.lines g s.left.few (omega (arith, step.lines, set.lines)) (omega (arith, step.lines)) (λ e. other.0 (sym e));
       same = same_lines start s step (same_lines c.args.self.now start set c.requires.same);
@@ -41,21 +41,21 @@ add-requires c =
 
 pub loop-i-preserved : goal.loop-i-preserved
 loop-i-preserved c =
-    let start = c.set-pivot.new.self in
+    let start = c.set_pivot.new.self in
     let s = c.loop-i.self in
     let d = c.args.d in
     let i = c.loop-i.i in
-    let set = c.set-pivot.ensures.stepped in
+    let set = c.set_pivot.ensures.stepped in
     let step = c.loop-i.invariant.0 in
     let cleared = c.loop-i.invariant.1 in
     let within : i < s.left.lines = omega (arith, step.lines) in
     let at = ap (λ (w : ℕ). bit w d) (row_at s.left i within) in
     let P : Solving → Type 0 = λ s'. Stepped start s' × Cleared s'.left d (i + 1) in
-    elim c.if-has-other.branch [
+    elim c.if-has_other.branch [
       | then-has-other w ↦
           let s' = w.add.new.self in
           let g : Cnot = record { control = d; target = i } in
-          let other = is_other i d (bit (get_or s.left.rows i 0) d) w.if-has-other.ensures in
+          let other = is_other i d (bit (get_or s.left.rows i 0) d) w.if-has_other.ensures in
           let legal : cnot_legal s.left.lines g ≡ true = legal_when s.left.lines g s.left.few (omega (arith, step.lines, set.lines)) within (λ e. other.0 (sym e)) in
           let same = same_lines start s step (same_lines c.args.self.now start set c.requires.same) in
           subst P (sym w.self-is) (
@@ -63,7 +63,7 @@ loop-i-preserved c =
             cleared_added s s' g legal w.add.ensures cleared (at ∙ other.1),
           )
       | else-has-other w ↦
-          let none = λ (ne : i ≡ d → ⊥). at ∙ no_other i d (bit (get_or s.left.rows i 0) d) (bit_lt (get_or s.left.rows i 0) d) w.if-has-other.ensures ne in
+          let none = λ (ne : i ≡ d → ⊥). at ∙ no_other i d (bit (get_or s.left.rows i 0) d) (bit_lt (get_or s.left.rows i 0) d) w.if-has_other.ensures ne in
           subst P (sym w.self-is) (step, cleared_skip s.left d i cleared none)
     ]
 
@@ -71,10 +71,10 @@ pub returns : goal.returns
 returns c =
     let s = c.loop-i.self in
     let d = c.args.d in
-    let set = c.set-pivot.ensures.stepped in
+    let set = c.set_pivot.ensures.stepped in
     let step = c.loop-i.invariant.0 in
     let end : c.loop-i.i ≡ s.left.lines = omega (arith, step.lines) in
     record {
-      stepped = step_more c.args.self.now c.set-pivot.new.self s set step;
+      stepped = step_more c.args.self.now c.set_pivot.new.self s set step;
       solved = solved_more s.left d (subst (Cleared s.left d) end c.loop-i.invariant.1);
     }

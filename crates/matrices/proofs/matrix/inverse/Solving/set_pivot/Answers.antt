@@ -11,8 +11,8 @@ returns-then-r-d c =
     let s = c.args.self.now in
     let s' = c.add.new.self in
     let d = c.args.d in
-    let r = c.pivot-row-r.result in
-    let row = c.pivot-row-r.ensures in
+    let r = c.pivot_row-r.result in
+    let row = c.pivot_row-r.ensures in
     let g : Cnot = record { control = r; target = d } in
     let legal : cnot_legal s.left.lines g ≡ true = legal_when s.left.lines g s.left.few row.most c.requires.line c.if-r-d.true in
     let added = c.add.ensures in
@@ -33,5 +33,5 @@ returns-else-r-d c =
       stepped = step_none s;
       solved = c.requires.solved;
       one = ap (λ (w : ℕ). bit w d) (row_at s.left d c.requires.line)
-          ∙ ap (λ (k : ℕ). bit (get_or s.left.rows k 0) d) (sym c.if-r-d.false) ∙ c.pivot-row-r.ensures.one;
+          ∙ ap (λ (k : ℕ). bit (get_or s.left.rows k 0) d) (sym c.if-r-d.false) ∙ c.pivot_row-r.ensures.one;
     }

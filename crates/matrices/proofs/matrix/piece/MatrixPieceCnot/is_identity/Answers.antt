@@ -8,7 +8,7 @@ use Rattle.matrices.proofs.matrix.piece.MatrixPieceCnot.is_identity.Goals as goa
 pub returns : goal.returns
 returns c =
     let m = c.args.self.now in
-    let units = c.are-units.ensures in (
+    let units = c.are_units.ensures in (
       λ yes. identity_by_rows m.lines (rows_of m) (length_rows m) (λ r h. row_at m r h ∙ units.0 yes r h ∙ unit_power r (omega (arith, m.few))),
       λ all. units.1 (λ r h. sym (row_at m r h) ∙ rows_by_identity m.lines (rows_of m) (length_rows m) (row_below m) all r h ∙ sym (unit_power r (omega (arith, m.few)))),
     )

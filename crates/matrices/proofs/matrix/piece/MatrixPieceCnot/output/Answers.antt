@@ -5,7 +5,7 @@ use Rattle.matrices.proofs.matrix.piece.MatrixPieceCnot.output.Goals as goal
 
 pub returns : goal.returns
 returns c =
-    let legal = c.if-not-is-legal.ensures in
+    let legal = c.if-not-is_legal.ensures in
     let put = c.put_output.ensures in
     record {
       answer = ap (λ (b : Bool). answer (unless_legal b None)) legal;
