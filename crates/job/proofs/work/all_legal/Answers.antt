@@ -31,4 +31,4 @@ loop-gate-preserved g c =
 
 pub returns : goal.returns
 returns g c =
-    all_sound g.G.Gate.kind c.args.n (ends c.args.book.now) c.loop-gate.at c.loop-gate.invariant (sym c.in-default.ensures)
+    all_sound g.G.Gate.kind c.args.n (ends c.args.book.now) c.loop-gate.at c.loop-gate.invariant (sym c.in_default.ensures)

@@ -48,4 +48,4 @@ pub returns : goal.returns
 returns g c =
     let gs = circuit (ends c.args.book.now) in
     subst (λ hs. FedAll g.G.Gate.kind (g.T.Taker.meaning c.args.taker.now) hs (g.T.Taker.meaning c.loop-gate.taker))
-    (take_all c.loop-gate.at gs (nth_end gs c.loop-gate.at (sym c.in-default.ensures))) c.loop-gate.invariant
+    (take_all c.loop-gate.at gs (nth_end gs c.loop-gate.at (sym c.in_default.ensures))) c.loop-gate.invariant

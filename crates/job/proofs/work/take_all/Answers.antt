@@ -30,9 +30,9 @@ returns g c =
     let m = g.P.Piece.meaning c.args.piece.now in
     let m' = g.P.Piece.meaning c.loop-gate.piece in
     let so_far = c.loop-gate.invariant in
-    let unchanged = c.in-default.ensures.none refl in
+    let unchanged = c.in_default.ensures.none refl in
     record {
-      ends = ap ends unchanged ∙ all_taken K c.args.end m c.args.book.now m' c.loop-gate.book so_far c.in-default.ensures.gate;
+      ends = ap ends unchanged ∙ all_taken K c.args.end m c.args.book.now m' c.loop-gate.book so_far c.in_default.ensures.gate;
       whole = λ x h. ap (λ b. whole K m.lines (shown m' b) x) unchanged ∙ so_far.sent x h;
       lines = so_far.same_lines;
       kept = kept_more so_far.same_places c.pop.ensures.kept;

@@ -6,7 +6,7 @@ use Rattle.mapping.specs.Drafts.{Took}
 use Rattle.mapping.proofs.GateLaws.{gate}
 use Rattle.mapping.proofs.TookLaws.{so_far, took_line, took_no_line, took_free, line_room}
 use Rattle.mapping.proofs.row.put_flips.Goals as goal
-use Rattle.mapping.proofs.row.put_flips.Goals.{then-has-bit, else-has-bit}
+use Rattle.mapping.proofs.row.put_flips.Goals.{then-has_bit, else-has_bit}
 
 pub put-requires : goal.put-requires
 put-requires c =
@@ -30,10 +30,10 @@ loop-target-preserved c =
     let b = c.args.book.now in
     let next = so_far e c.args.controls w (k + 1) in
     elim c.if-has_bit.branch [
-      | then-has-bit v ↦
+      | then-has_bit v ↦
           subst₂ (Took d b next) (sym v.draft-is) (sym v.book-is)
           (took_line e c.args.controls w k d b c.loop-target.draft c.loop-target.book c.loop-target.invariant _ _ (sym v.if-has_bit.ensures) v.put.ensures)
-      | else-has-bit v ↦
+      | else-has_bit v ↦
           subst₂ (Took d b next) (sym v.draft-is) (sym v.book-is)
           (took_no_line e c.args.controls w k d b c.loop-target.draft c.loop-target.book c.loop-target.invariant (sym v.if-has_bit.ensures))
     ]

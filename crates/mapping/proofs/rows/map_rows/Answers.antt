@@ -9,7 +9,7 @@ use Rattle.mapping.proofs.LeastLaws.{look_start, look_better, look_worse}
 use Rattle.mapping.proofs.RunLaws.{image, no_rows, row_room, row_put, row_free, row_chosen, zero_chosen, from_row, image_above, image_word, run_took, run_identity}
 use Rattle.mapping.proofs.TookLaws.{took_free, at_end_length}
 use Rattle.mapping.proofs.rows.map_rows.Goals as goal
-use Rattle.mapping.proofs.rows.map_rows.Goals.{then-is-better, else-is-better}
+use Rattle.mapping.proofs.rows.map_rows.Goals.{then-is_better, else-is_better}
 
 pub rows-init : goal.rows-init
 rows-init c = no_rows c.args.draft.now c.args.book.now c.requires.apart
@@ -45,12 +45,12 @@ loop-word-preserved c =
     let here : w < 2 ^ n = omega (arith, c.loop-word-test.true, c.count-count.ensures) in
     let word : w < 2 ^ c.rows.draft.lines = subst (λ (m : ℕ). w < 2 ^ m) (sym c.rows.invariant.took.same_lines) here in
     elim c.if-is_better.branch [
-      | then-is-better v ↦ (
+      | then-is_better v ↦ (
         subst (λ (k : ℕ). k < 2 ^ c.rows.draft.lines) (sym v.best-is) word,
         look_better t 16 i w b l r _ _ c.loop-word.invariant.1 c.loop-word.auto.word c.total_of-total.ensures.is c.if-total-eq0.false
             (ltb-true r l (sym v.if-is_better.ensures)) v.best-is v.least_is,
       )
-      | else-is-better v ↦ (
+      | else-is_better v ↦ (
         subst (λ (k : ℕ). k < 2 ^ c.rows.draft.lines) (sym v.best-is) c.loop-word.invariant.0,
         look_worse t 16 i w b l r _ _ c.loop-word.invariant.1 c.loop-word.auto.word c.total_of-total.ensures.is c.if-total-eq0.false
             c.total_of-total.ensures.small (ltb-false r l (sym v.if-is_better.ensures)) v.best-is v.least_is,

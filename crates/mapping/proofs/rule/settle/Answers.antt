@@ -15,14 +15,14 @@ returns-in-Ok c =
           ap (λ l. get_or l x 0) made.2 ∙ getD_counting 0 (2 ^ n) x word ∙ omega arith;
     }
 
-pub returns-in-default : goal.returns-in-default
-returns-in-default c =
+pub returns-in_default : goal.returns-in_default
+returns-in_default c =
     let t = c.args.table.now in
     let n = c.lines.result in
     let some : 1 ≤ n = subst (λ (k : ℕ). 1 ≤ k) (sym c.lines.ensures) t.some in
     let few : n ≤ 8 = subst (λ (k : ℕ). k ≤ 8) (sym c.lines.ensures) t.few in
     let words = counting 0 (2 ^ n) in
     let none = fits 8 n (2 ^ n) words some few (length_counting 0 (2 ^ n)) (counting_narrow n 0 0 (2 ^ n) (omega arith)) in
-    let why = c.in-default.ensures in
+    let why = c.in_default.ensures in
     let never : ◌≡◌ {A = ℕ} 0 1 = cc in
     absurd (omega arith)

@@ -6,10 +6,10 @@ use Rattle.sheet.specs.Fault.{fault, placed}
 use Rattle.sheet.specs.Body.{body_line}
 use Rattle.sheet.proofs.Bodies.{line_ok, line_err, line_ends}
 use Rattle.sheet.proofs.body.next_entry.Goals as goal
-use Rattle.sheet.proofs.body.next_entry.Goals.{After-read-entry}
+use Rattle.sheet.proofs.body.next_entry.Goals.{After-read_entry}
 
 -- what `read_entry` answered
-told : (c : After-read-entry) → c.read_entry.result ≡ placed Body (c.args.body.first + c.args.at) (body_line c.args.body.kind c.args.body.lines c.args.at c.in-ok-text.text.now)
+told : (c : After-read_entry) → c.read_entry.result ≡ placed Body (c.args.body.first + c.args.at) (body_line c.args.body.kind c.args.body.lines c.args.at c.in-ok-text.text.now)
 told c =
     let named = c.body_line.ensures in
     c.read_entry.ensures ∙ (λ j. placed Body ((named.number ∙ c.line_number-number.ensures) j) (body_line (named.kind j) c.args.body.lines c.args.at (named.text j)))
@@ -25,8 +25,8 @@ pub returns-in-err-entry : goal.returns-in-err-entry
 returns-in-err-entry c =
     let p = err_from_is_err_and c.from_residual-in-err-entry.result c.from_residual-in-err-entry.ensures.1 in
     rw (p.1, p.2)
-    (line_err Body _ (body_line c.args.body.kind c.args.body.lines c.args.at) c.args.rest.now _ c.in-ok-text.after.now _ c.in-ok-text.ensures (sym (told (goal.at.returns-in-err-entry c).After-read-entry) ∙ c.in-err-entry.was))
+    (line_err Body _ (body_line c.args.body.kind c.args.body.lines c.args.at) c.args.rest.now _ c.in-ok-text.after.now _ c.in-ok-text.ensures (sym (told (goal.at.returns-in-err-entry c).After-read_entry) ∙ c.in-err-entry.was))
 
 pub returns : goal.returns
 returns c =
-    line_ok Body _ (body_line c.args.body.kind c.args.body.lines c.args.at) c.args.rest.now _ c.in-ok-text.after.now _ c.in-ok-text.ensures (sym (told (goal.at.returns c).After-read-entry) ∙ c.in-ok-entry.was)
+    line_ok Body _ (body_line c.args.body.kind c.args.body.lines c.args.at) c.args.rest.now _ c.in-ok-text.after.now _ c.in-ok-text.ensures (sym (told (goal.at.returns c).After-read_entry) ∙ c.in-ok-entry.was)

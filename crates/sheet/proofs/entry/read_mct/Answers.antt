@@ -12,12 +12,12 @@ split c = c.in-Some.ensures.value ∙ ap (λ o. both (Some c.in-Some.x) (rest_nu
 pub loop-x-init : goal.loop-x-init
 loop-x-init c = (0, refl, refl, omega arith)
 
-pub returns-in-default : goal.returns-in-default
-returns-in-default c = sym (sym c.loop-x.invariant.1 ∙ ap (mct_of c.args.n c.loop-x.invariant.0 c.loop-x.controls.least) c.in-default.ensures.value)
+pub returns-in_default : goal.returns-in_default
+returns-in_default c = sym (sym c.loop-x.invariant.1 ∙ ap (mct_of c.args.n c.loop-x.invariant.0 c.loop-x.controls.least) c.in_default.ensures.value)
 
-pub returns-in-default-after : goal.returns-in-default-after
-returns-in-default-after c =
-    let one = c.in-Some.ensures.value ∙ ap (λ o. both (Some c.in-Some.x) (rest_numbers o)) c.in-default-after.is in
+pub returns-in_default-after : goal.returns-in_default-after
+returns-in_default-after c =
+    let one = c.in-Some.ensures.value ∙ ap (λ o. both (Some c.in-Some.x) (rest_numbers o)) c.in_default-after.is in
     c.gate.ensures c.loop-x.invariant.0 c.loop-x.invariant.2 ∙ sym (ap (mct_of c.args.n c.loop-x.invariant.0 c.loop-x.controls.least) one) ∙ c.loop-x.invariant.1
 
 pub returns-then-not-admits : goal.returns-then-not-admits

@@ -17,10 +17,10 @@ loop-i-preserved c =
       bit_fits l _ c.loop-i-test.true c.loop-i.auto.i _ _ digit c.loop-i.invariant.1,
     )
 
-pub returns-in-default : goal.returns-in-default
-returns-in-default c =
+pub returns-in_default : goal.returns-in_default
+returns-in_default c =
     let l = c.args.line.now in
-    let none = bits_other l _ c.loop-i-test.true c.loop-i.auto.i (sym c.read_bit.ensures ∙ c.in-default.is) in
+    let none = bits_other l _ c.loop-i-test.true c.loop-i.auto.i (sym c.read_bit.ensures ∙ c.in_default.is) in
     sym (cond-true _ _ _ (eq-eqb _ _ c.if-line-n.false) ∙ ap row_of (bits_none l _ none))
 
 pub returns : goal.returns

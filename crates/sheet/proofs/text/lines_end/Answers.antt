@@ -5,8 +5,8 @@ use Rattle.sheet.proofs.text.lines_end.Goals as goal
 pub loop-line-init : goal.loop-line-init
 loop-line-init c = ([], refl, refl)
 
-pub returns-in-default : goal.returns-in-default
-returns-in-default c = inr (refl, pass_short c.args.text.now c.loop-line.rest.now c.loop-line.invariant.0 _ c.loop-line.invariant.1 c.loop-line.invariant.2 c.args.count c.loop-line-test.true c.in-default.ensures)
+pub returns-in_default : goal.returns-in_default
+returns-in_default c = inr (refl, pass_short c.args.text.now c.loop-line.rest.now c.loop-line.invariant.0 _ c.loop-line.invariant.1 c.loop-line.invariant.2 c.args.count c.loop-line-test.true c.in_default.ensures)
 
 pub loop-line-preserved : goal.loop-line-preserved
 loop-line-preserved c =

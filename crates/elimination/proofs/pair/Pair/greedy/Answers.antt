@@ -9,7 +9,7 @@ use Rattle.elimination.specs.Layouts.{Sound, state_of}
 use Rattle.elimination.specs.Finds.{work_of}
 use Rattle.elimination.proofs.Steps.{greedy_yes, greedy_no, try_both, doing_none, doing_more, doing_all, works_same}
 use Rattle.elimination.proofs.pair.Pair.greedy.Goals as goal
-use Rattle.elimination.proofs.pair.Pair.greedy.Goals.{then-i-d+then-not-is-solved, else-i-d, else-i-d-via-then-i-d+else-not-is-solved, else-i-d-via-else-i-d}
+use Rattle.elimination.proofs.pair.Pair.greedy.Goals.{then-i-d+then-not-is_solved, else-i-d, else-i-d-via-then-i-d+else-not-is_solved, else-i-d-via-else-i-d}
 
 pub loop-i-init : goal.loop-i-init
 loop-i-init c = (
@@ -28,7 +28,7 @@ loop-i-preserved c =
     let more = doing_more (greedy_at pairs n d) n (work_of p c.args.gates.now) l.self l.gates i l.invariant.0 c.loop-i-test.true in
     let count = ap (λ (m : ℕ). solved pairs m (state_of l.self) i) l.invariant.0.lines in
     elim c.if-i-d.branch [
-      | then-i-d+then-not-is-solved x ↦
+      | then-i-d+then-not-is_solved x ↦
           let one = x.try_gate in
           let two = x.try_gate-then-not-is_solved in (
             more c.if-i-d.self c.if-i-d.gates (subst Sound (sym x.self-is) two.ensures.sound)
@@ -43,7 +43,7 @@ loop-i-preserved c =
             (ap (λ (q : Pair). q.lines) x.self-is ∙ l.invariant.0.lines)
             (greedy_no n d i (n - (i + 1)) w _
             (elim x.else-i-d.branch [
-              | else-i-d-via-then-i-d+else-not-is-solved y ↦ or_right _ _ (sym count ∙ sym y.is_solved.ensures ∙ y.if-not-is_solved.false)
+              | else-i-d-via-then-i-d+else-not-is_solved y ↦ or_right _ _ (sym count ∙ sym y.is_solved.ensures ∙ y.if-not-is_solved.false)
               | else-i-d-via-else-i-d y ↦ or_left _ _ (eq-eqb i d y.if-i-d.false)
             ])
             (works_same x.self-is x.gates-is)),

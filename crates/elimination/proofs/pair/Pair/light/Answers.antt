@@ -31,8 +31,8 @@ returns-in-Some c =
           (put_same (adding x.end x.from c.args.d) c.args.gates.now p c.best_pivot.new.self w' w' b.same refl c.keep.ensures.work);
     }
 
-pub returns-in-default : goal.returns-in-default
-returns-in-default c =
+pub returns-in_default : goal.returns-in_default
+returns-in_default c =
     let p = c.args.self.now in
     let b = c.best_pivot.ensures in
     record {
@@ -40,6 +40,6 @@ returns-in-default c =
       lines = ap (λ (q : Pair). q.lines) b.same;
       few = omega arith;
       work = lit_now p.lines c.args.d (work_of p c.args.gates.now) _ (gate_of c.args.d None) (sym c.at.ensures ∙ c.if-at.false)
-          c.in-default.ensures.value
+          c.in_default.ensures.value
           (ap (λ (q : Pair). work_of q c.args.gates.now) b.same);
     }

@@ -60,7 +60,7 @@ returns c =
     let p = c.args.self.now in
     let l = c.loop-best in
     let n = p.lines in
-    let none : None ≡ best_line n (state_of l.self) None 0 n = c.in-default.ensures.value ∙ ap (λ (k : ℕ). best_line k (state_of l.self) None 0 k) l.invariant.1 in
+    let none : None ≡ best_line n (state_of l.self) None 0 n = c.in_default.ensures.value ∙ ap (λ (k : ℕ). best_line k (state_of l.self) None 0 k) l.invariant.1 in
     record {
       ends = running_all n c.requires.sound.few (state_of p) c.args.book.now (state_of l.self) l.book l.invariant.2 none;
       kept = l.invariant.2.kept;

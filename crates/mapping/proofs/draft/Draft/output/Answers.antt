@@ -11,8 +11,8 @@ flipped_is c =
     let v = get_or c.loop-word.self.images c.loop-word.word 0 in
     c.flipped.ensures ∙ ap (λ (b : ℕ). cond (eqb (bit_and v g.controls) g.controls) (bit_xor v b) v) c.unit-bit.ensures
 
-pub invariant-of-self : goal.invariant-of-self
-invariant-of-self c =
+pub invariant_of-self : goal.invariant_of-self
+invariant_of-self c =
     let self = c.loop-word.self in
     let g = c.args.gate in
     let w = c.loop-word.word in
@@ -20,4 +20,9 @@ invariant-of-self c =
     let within : w < length self.images = omega (arith, self.full, c.loop-word-test.true) in
     let new : w < 2 ^ self.lines → c.flipped.result < 2 ^ self.lines =
     λ h. subst (λ (v : ℕ). v < 2 ^ self.lines) (sym (flipped_is c)) (flipped_below self.lines g ok (get_or self.images w 0) (self.below w h)) in
-    (self.some, (self.few, (length-set self.images w c.flipped.result ∙ self.full, (image_set self.images w c.flipped.result (2 ^ self.lines) within new self.below, tt))))
+    record {
+      some = self.some;
+      few = self.few;
+      full = length-set self.images w c.flipped.result ∙ self.full;
+      below = image_set self.images w c.flipped.result (2 ^ self.lines) within new self.below;
+    }

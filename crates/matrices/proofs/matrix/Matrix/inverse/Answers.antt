@@ -8,7 +8,7 @@ use Rattle.matrices.proofs.matrix.Matrix.inverse.Goals as goal
 pub loop-d-init : goal.loop-d-init
 loop-d-init c =
     let m = c.args.self.now in
-    (step_none (record { left = m; made = c.units.result }), solved_none m c.in-default.ensures)
+    (step_none (record { left = m; made = c.units.result }), solved_none m c.in_default.ensures)
 
 pub clear_column-requires : goal.clear_column-requires
 clear_column-requires c =

@@ -19,18 +19,18 @@ loop-r-preserved c =
 all : (c : goal.After-loop-r) → take c.args.lines c.loop-r.held ≡ c.args.rows.now
 all c = held_all c.args.lines c.loop-r.r c.loop-r.held c.args.rows.now (omega arith) (omega arith) c.loop-r.invariant.1
 
-pub invariant-of-result : goal.invariant-of-result
-invariant-of-result c =
+pub invariant_of-result : goal.invariant_of-result
+invariant_of-result c =
     let n = c.args.lines in
     let rows = c.args.rows.now in
-    let below = below_by_first n c.loop-r.held rows (all c) (λ r h. narrow n 0 rows c.in-default.ensures r (omega arith)) in
-    (omega arith, (omega arith, (c.loop-r.invariant.0, (below, tt))))
+    let below = below_by_first n c.loop-r.held rows (all c) (λ r h. narrow n 0 rows c.in_default.ensures r (omega arith)) in
+    record { some = omega arith; few = omega arith; full = c.loop-r.invariant.0; below = below }
 
 pub returns : goal.returns
 returns c =
     let n = c.args.lines in
     let rows = c.args.rows.now in (
-      fits 64 n n rows (omega arith) (omega arith) (omega arith) c.in-default.ensures,
+      fits 64 n n rows (omega arith) (omega arith) (omega arith) c.in_default.ensures,
       refl,
       held_all n c.loop-r.r c.loop-r.held rows (omega arith) (omega arith) c.loop-r.invariant.1,
     )

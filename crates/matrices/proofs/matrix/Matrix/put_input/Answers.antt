@@ -2,13 +2,13 @@ use Rattle.std.proofs.Common.{refl}
 use Rattle.matrices.proofs.Puts.{input_full, input_rows, input_below}
 use Rattle.matrices.proofs.matrix.Matrix.put_input.Goals as goal
 
-pub invariant-of-self : goal.invariant-of-self
-invariant-of-self c =
+pub invariant_of-self : goal.invariant_of-self
+invariant_of-self c =
     let m = c.args.self.now in
     let g = c.args.gate in
     let held = c.add_column.new.rows in
     let is = c.add_column.ensures in
-    (m.some, (m.few, (input_full m g c.requires held is, (input_below m g c.requires held is, tt))))
+    record { some = m.some; few = m.few; full = input_full m g c.requires held is; below = input_below m g c.requires held is }
 
 pub returns : goal.returns
 returns c = record {

@@ -16,10 +16,10 @@ loop-r-preserved c =
       λ k h. ap (λ (w : ℕ). get_or (set rows r w) k 0) one ∙ fill_by_more (λ i. 2 ^ i) rows r 0 within c.loop-r.invariant.1 k h,
     )
 
-pub invariant-of-result : goal.invariant-of-result
-invariant-of-result c =
+pub invariant_of-result : goal.invariant_of-result
+invariant_of-result c =
     let below = λ (r : ℕ) (h : r < c.args.lines). subst (λ (w : ℕ). w < 2 ^ c.args.lines) (sym (c.loop-r.invariant.1 r (omega arith))) (pow-lt h) in
-    (c.requires.some, (c.requires.few, (c.loop-r.invariant.0, (below, tt))))
+    record { some = c.requires.some; few = c.requires.few; full = c.loop-r.invariant.0; below = below }
 
 pub returns : goal.returns
 returns c =

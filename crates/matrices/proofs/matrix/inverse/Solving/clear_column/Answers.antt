@@ -10,7 +10,7 @@ use Rattle.matrices.proofs.Additions.{legal_when, same_lines, step_none, step_mo
 use Rattle.matrices.proofs.Clearings.{Cleared, cleared_added, cleared_skip, solved_more}
 use Rattle.matrices.proofs.Held.{row_at}
 use Rattle.matrices.proofs.matrix.inverse.Solving.clear_column.Goals as goal
-use Rattle.matrices.proofs.matrix.inverse.Solving.clear_column.Goals.{then-has-other, else-has-other}
+use Rattle.matrices.proofs.matrix.inverse.Solving.clear_column.Goals.{then-has_other, else-has_other}
 
 -- what the test of a row tells
 is_other : (i d b : ℕ) → true ≡ (not (eqb i d) && eqb b 1) → (i ≡ d → ⊥) × (b ≡ 1)
@@ -52,7 +52,7 @@ loop-i-preserved c =
     let at = ap (λ (w : ℕ). bit w d) (row_at s.left i within) in
     let P : Solving → Type 0 = λ s'. Stepped start s' × Cleared s'.left d (i + 1) in
     elim c.if-has_other.branch [
-      | then-has-other w ↦
+      | then-has_other w ↦
           let s' = w.add.new.self in
           let g : Cnot = record { control = d; target = i } in
           let other = is_other i d (bit (get_or s.left.rows i 0) d) w.if-has_other.ensures in
@@ -62,7 +62,7 @@ loop-i-preserved c =
             step_more start s s' step (step_added s s' g legal w.add.ensures same),
             cleared_added s s' g legal w.add.ensures cleared (at ∙ other.1),
           )
-      | else-has-other w ↦
+      | else-has_other w ↦
           let none = λ (ne : i ≡ d → ⊥). at ∙ no_other i d (bit (get_or s.left.rows i 0) d) (bit_lt (get_or s.left.rows i 0) d) w.if-has_other.ensures ne in
           subst P (sym w.self-is) (step, cleared_skip s.left d i cleared none)
     ]
