@@ -1,6 +1,6 @@
 -- One answer more in a draft.
 use Rattle.std.proofs.Common.{◌≡◌, ℕ, suc, ◌+◌, ◌-◌, ◌<◌, ◌⊎◌, List, [], ◌∷◌, ◌++◌, length, take, set, sym, refl, ap, ◌∙◌, ⊎_elim, append_assoc, add-zero, arith, length-append, length-set}
-use Rattle.std.proofs.lemmas.List.{append_nil, set_past, take_all, take-append-le, take_more_set, length_push, map_push}
+use Rattle.std.proofs.lemmas.List.{append-nil, set_past, take_all, take-append-le, take_more_set, length_push, map_push}
 use Rattle.std.proofs.lemmas.Bool.{cases_lt}
 use Rattle.sheet.specs.Render.{lines_text}
 use Rattle.answers.specs.declared.draft.Draft.{Draft}
@@ -19,7 +19,7 @@ kept_one room old at b text lo lt e =
 
 -- bytes that are laid after a text
 pub laid_kept : (room : ℕ) (old : List ℕ) (at : ℕ) (text bs : List ℕ) → length old ≡ room → length text ≡ at → take at old ≡ take room text → take (at + length bs) (laid old at bs) ≡ take room (text ++ bs)
-laid_kept room old at text [] lo lt e = ap (λ k. take k old) (add-zero at) ∙ e ∙ ap (take room) (sym (append_nil text))
+laid_kept room old at text [] lo lt e = ap (λ k. take k old) (add-zero at) ∙ e ∙ ap (take room) (sym (append-nil text))
 laid_kept room old at text (b ∷ bs) lo lt e =
     let one : at + suc (length bs) ≡ at + 1 + length bs = omega arith in
     ap (λ k. take k (laid (set old at b) (at + 1) bs)) one
@@ -35,7 +35,7 @@ bodies_append [] ys = refl
 bodies_append (x ∷ xs) ys = ap (λ z. body x ++ z) (bodies_append xs ys) ∙ sym (append_assoc (body x) (bodies xs) (bodies ys))
 
 pub bodies_push : (xs : List Answer) (a : Answer) → lines_text (bodies (xs ++ a ∷ [])) ≡ lines_text (bodies xs) ++ lines_text (body a)
-bodies_push xs a = ap lines_text (bodies_append xs (a ∷ [])) ∙ lines_append (bodies xs) (body a ++ []) ∙ ap (λ z. lines_text (bodies xs) ++ lines_text z) (append_nil (body a))
+bodies_push xs a = ap lines_text (bodies_append xs (a ∷ [])) ∙ lines_append (bodies xs) (body a ++ []) ∙ ap (λ z. lines_text (bodies xs) ++ lines_text z) (append-nil (body a))
 
 -- what is told of an answer
 head_is : (a : Answer) (k : AnswerKind) (n : ℕ) (ls : List (List ℕ)) (m z : ℕ) → Is a k n ls → m ≡ length ls → z ≡ length (lines_text ls) → record { kind = k; lines = n; count = m; size = z } ≡ head a

@@ -2,7 +2,7 @@
 use Rattle.std.proofs.Common.{◌≡◌, ℕ, ◌+◌, ◌≤◌, Bool, true, false, cond, ◌&&◌, ◌||◌, ltb, ◌⊎◌, List, [], ◌∷◌, ◌++◌, map, length, take, drop, replicate, Some, None, Ok, Err, decimal, Option, sym, refl, ap, ◌∙◌, subst, inl, inr, ⊎_elim, add-zero, add_assoc, zero-add, arith, length-append}
 use lib.ListN.{length-map}
 use Rattle.std.proofs.lemmas.Fmt.{decimal_digit}
-use Rattle.std.proofs.lemmas.List.{append_nil, length_push, map_push, take_all}
+use Rattle.std.proofs.lemmas.List.{append-nil, length_push, map_push, take_all}
 use Rattle.std.proofs.lemmas.Bool.{ltb-false, lt-ltb, and_cases, or_parts}
 use Rattle.gates.specs.declared.refusal.Refusal.TheVariants.{AnswerTooLong}
 use Rattle.sheet.specs.declared.fault.Layer.TheVariants.{Work}
@@ -152,7 +152,7 @@ unfit_is room (a ∷ zs) =
     let xs = a ∷ zs in
     let first : length xs + 2 + 0 ≡ length (map head xs) + 2 = omega (arith, length-map xs head) in
     let at : line_end xs [] ≡ length (decimal (length (map head xs))) + 1 = one_line (decimal (length xs)) ∙ ap (λ n. length (decimal n) + 1) (sym (length-map xs head)) in
-    let start : body_end xs [] ≡ length (lines_text (heading (map head xs))) = ap (λ ls. length (lines_text ls)) (append_nil (heading (map head xs))) in
+    let start : body_end xs [] ≡ length (lines_text (heading (map head xs))) = ap (λ ls. length (lines_text ls)) (append-nil (heading (map head xs))) in
     after_is room xs [] xs ∙ (λ j. unfit_from room 2 (first j) (at j) (start j) (map head xs))
 
 -- a draft that fits is written

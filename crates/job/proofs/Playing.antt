@@ -1,6 +1,6 @@
 -- How far a list of calls has come: what is left to do on paper, from the job that the piece and the book show.
 use Rattle.std.proofs.Common.{◌≡◌, ℕ, ◌+◌, ◌^◌, ◌<◌, ◌≤◌, List, [], ◌∷◌, ◌++◌, length, get_or, take, drop, set, Some, None, Option, Result, sym, refl, ap, ◌∙◌, subst, append_assoc, arith}
-use Rattle.std.proofs.lemmas.List.{append_nil, take_more_set, take_all, drop_more, drop-drop, drop-set-lt, drop_all}
+use Rattle.std.proofs.lemmas.List.{append-nil, take_more_set, take_all, drop_more, drop-drop, drop-set-lt, drop_all}
 use Rattle.words.specs.Maps.{Same, Apart}
 use Rattle.gates.specs.declared.refusal.Refusal.{Refusal}
 use Rattle.gates.specs.Gates.{Kind, Lawful}
@@ -84,7 +84,7 @@ module _ {C G : Type 0} (K : Kind G) (R : Rules C G) (P : C → Job G → Type 0
     playing_all t b₀ opening h =
         let none : drop at ss ≡ [] = sym p.rest ∙ drop_all at ss' h in
         let answers : answered R ss (opened m.map) ≡ ss' =
-        p.answers ∙ ap (λ l. take at ss' ++ answered R l p.paper) none ∙ append_nil (take at ss') ∙ take_all at ss' h in
+        p.answers ∙ ap (λ l. take at ss' ++ answered R l p.paper) none ∙ append-nil (take at ss') ∙ take_all at ss' h in
         let job : played R ss (opened m.map) ≡ p.paper = p.job ∙ ap (λ l. played R l p.paper) none in
         record {
           lines = opening.lines;

@@ -1,5 +1,5 @@
 -- A run brings the map of a table to identity, row by row.
-use Rattle.std.proofs.Common.{◌≡◌, ℕ, zero, suc, ◌+◌, ◌-◌, ◌*◌, ◌^◌, ◌<◌, ◌≤◌, true, ◌++◌, length, sym, refl, ap, ◌∙◌, subst, ap₂, ⊎_elim, append_assoc, append_nil, le_refl, mul-suc, add-one, arith, length-append, pow_pos, pow_mono}
+use Rattle.std.proofs.Common.{◌≡◌, ℕ, zero, suc, ◌+◌, ◌-◌, ◌*◌, ◌^◌, ◌<◌, ◌≤◌, true, ◌++◌, length, sym, refl, ap, ◌∙◌, subst, ap₂, ⊎_elim, append_assoc, append-nil, le_refl, mul-suc, add-one, arith, length-append, pow_pos, pow_mono}
 use lib.Bits.{xor_self}
 use lib.Count.{ones}
 use lib.ListN.{length-map}
@@ -184,7 +184,7 @@ rows_last : (n k i : ℕ) (f : ℕ → ℕ)
     → rows n (suc k) i f ≡ rows n k i f ++ row (all_moved mct n (rows n k i f) f) (i + k) (choice n (all_moved mct n (rows n k i f) f) (i + k))
 unfolding rows
 rows_last n zero i f =
-    append_nil (row f i (choice n f i)) ∙ let z : i ≡ i + 0 = omega arith in ap (λ (m : ℕ). row f m (choice n f m)) z
+    append-nil (row f i (choice n f i)) ∙ let z : i ≡ i + 0 = omega arith in ap (λ (m : ℕ). row f m (choice n f m)) z
 rows_last n (suc k) i f =
     let now = row f i (choice n f i) in
     let h = all_moved mct n now f in

@@ -1,5 +1,5 @@
 -- The rows of a run, one after the other.
-use Rattle.std.proofs.Common.{◌≡◌, ℕ, ◌+◌, ◌-◌, ◌*◌, ◌^◌, ◌<◌, ◌≤◌, List, [], ◌∷◌, ◌++◌, length, sym, refl, ap, ◌∙◌, subst, append_nil, mul-le-mul_left, mul-suc, add-one, arith, length-append, get_or-take}
+use Rattle.std.proofs.Common.{◌≡◌, ℕ, ◌+◌, ◌-◌, ◌*◌, ◌^◌, ◌<◌, ◌≤◌, List, [], ◌∷◌, ◌++◌, length, sym, refl, ap, ◌∙◌, subst, append-nil, mul-le-mul_left, mul-suc, add-one, arith, length-append, get_or-take}
 use Rattle.words.specs.Maps.{Same, Keeps, Apart, Identity}
 use Rattle.gates.specs.Mcts.{mct}
 use Rattle.gates.specs.declared.end.End.{End}
@@ -121,7 +121,7 @@ module _ (d : Draft) (b : Book Mct) (k : ℕ) (d' : Draft) (b' : Book Mct) (so :
         let none : row (image d') k j ≡ [] = no_gates (row (image d') k j) (row_length k j (image d') ∙ e) in
         record {
           took = subst (λ ps. Took d b ps d' b')
-              (sym (append_nil (rows n k 0 (image d))) ∙ ap (λ ps. rows n k 0 (image d) ++ ps) (sym none ∙ ap (row (image d') k) chosen) ∙ sym next_rows)
+              (sym (append-nil (rows n k 0 (image d))) ∙ ap (λ ps. rows n k 0 (image d) ++ ps) (sym none ∙ ap (row (image d') k) chosen) ∙ sym next_rows)
               so.took;
           done = subst (λ ps. Done n (k + 1) (all_moved mct n ps (image d'))) none next_done;
           few = next_few;

@@ -1,5 +1,5 @@
 -- Gates put into a copy and into the book, one after the other.
-use Rattle.std.proofs.Common.{◌≡◌, ℕ, zero, suc, ◌+◌, ◌-◌, ◌<◌, ◌≤◌, Bool, true, false, cond, List, [], ◌∷◌, ◌++◌, map, length, sym, refl, ap, ◌∙◌, subst, ap₂, append_nil, add-zero, add-one, arith, length-append}
+use Rattle.std.proofs.Common.{◌≡◌, ℕ, zero, suc, ◌+◌, ◌-◌, ◌<◌, ◌≤◌, Bool, true, false, cond, List, [], ◌∷◌, ◌++◌, map, length, sym, refl, ap, ◌∙◌, subst, ap₂, append-nil, add-zero, add-one, arith, length-append}
 use mathlib.Core.List.{map-append}
 use lib.ListN.{length-map}
 use Rattle.words.specs.Words.{has}
@@ -87,7 +87,7 @@ module _ (e : End) (c w k : ℕ) where
   line_left : has w k ≡ false → so_far e c w (k + 1) ≡ so_far e c w k
   line_left h =
       ap (λ ls. at_end e (map (gate c) ls))
-      (lines_more k w ∙ ap (λ b. lines_from k 0 w ++ cond b (k ∷ []) []) h ∙ append_nil (lines_from k 0 w))
+      (lines_more k w ∙ ap (λ b. lines_from k 0 w ++ cond b (k ∷ []) []) h ∙ append-nil (lines_from k 0 w))
 
   module _ (d : Draft) (b : Book Mct) (d₁ : Draft) (b₁ : Book Mct) (so : Took d b (so_far e c w k) d₁ b₁) where
     pub took_line : (d₂ : Draft) (b₂ : Book Mct) → has w k ≡ true → Took d₁ b₁ ((e, gate c k) ∷ []) d₂ b₂ → Took d b (so_far e c w (k + 1)) d₂ b₂

@@ -1,5 +1,5 @@
 -- A sheet that is read is the rendering of what is read: lines and fields.
-use Rattle.std.proofs.Common.{◌≡◌, ℕ, ◌+◌, ◌*◌, ◌/◌, ◌%◌, ◌≤◌, true, false, cond, eqb, List, [], ◌∷◌, ◌++◌, map, length, Some, None, decimal, Option, sym, refl, ap, ◌∙◌, append_assoc, append_nil, arith, rules}
+use Rattle.std.proofs.Common.{◌≡◌, ℕ, ◌+◌, ◌*◌, ◌/◌, ◌%◌, ◌≤◌, true, false, cond, eqb, List, [], ◌∷◌, ◌++◌, map, length, Some, None, decimal, Option, sym, refl, ap, ◌∙◌, append_assoc, append-nil, arith, rules}
 use Rattle.std.specs.List.{flat_map, join_with_byte}
 use Rattle.std.proofs.lemmas.Bool.{eqb-true}
 use Rattle.sheet.specs.Text.{onto, pieces, numeral}
@@ -26,7 +26,7 @@ rejoined_pieces sep (b ∷ bs) =
 -- ended lines, and the empty piece after the last
 pub rejoined_lines : (ls : List (List ℕ)) → join_with_byte 10 (ls ++ [] ∷ []) ≡ flat_map (λ l. l ++ 10 ∷ []) ls
 rejoined_lines [] = refl
-rejoined_lines (l ∷ []) = sym (append_nil _)
+rejoined_lines (l ∷ []) = sym (append-nil _)
 rejoined_lines (l ∷ m ∷ ls) = ap (λ z. l ++ (10 ∷ z)) (rejoined_lines (m ∷ ls)) ∙ sym (append_assoc l (10 ∷ []) _)
 
 both_back : (o : Option ℕ) (os : Option (List ℕ)) (ns : List ℕ) → both o os ≡ Some ns → (n : ℕ) × (ms : List ℕ) × (o ≡ Some n) × (os ≡ Some ms) × (ns ≡ n ∷ ms)

@@ -1,5 +1,5 @@
 -- How the lines of a body are read one by one.
-use Rattle.std.proofs.Common.{◌≡◌, ℕ, suc, ◌+◌, ◌-◌, ◌<◌, ◌≤◌, List, [], ◌∷◌, ◌++◌, Ok, Err, Result, sym, refl, ap, ◌∙◌, append_assoc, append_nil, add-one, arith}
+use Rattle.std.proofs.Common.{◌≡◌, ℕ, suc, ◌+◌, ◌-◌, ◌<◌, ◌≤◌, List, [], ◌∷◌, ◌++◌, Ok, Err, Result, sym, refl, ap, ◌∙◌, append_assoc, append-nil, add-one, arith}
 use Rattle.sheet.specs.declared.fault.Fault.{Fault}
 use Rattle.sheet.specs.declared.fault.Layer.{Layer}
 use Rattle.sheet.specs.declared.fault.Layer.TheVariants.{Body}
@@ -78,4 +78,4 @@ module _ (k : Kind) (n first : ℕ) where
     pub body_end : count ≤ at → total ≡ Ok (done, ps)
     body_end l =
         let none : count - at ≡ 0 = omega arith in
-        so_far ∙ ap (λ m. after done (body_lines k n first at m ps)) none ∙ ap (λ z. Ok (z, ps)) (append_nil done)
+        so_far ∙ ap (λ m. after done (body_lines k n first at m ps)) none ∙ ap (λ z. Ok (z, ps)) (append-nil done)

@@ -1,5 +1,5 @@
 -- Where the lines and the bodies of a sheet stand in it.
-use Rattle.std.proofs.Common.{◌≡◌, ℕ, ◌+◌, ◌<◌, ◌≤◌, cond, eqb, List, [], ◌∷◌, ◌++◌, length, get_or, drop, Ok, Err, Result, sym, refl, ap, ◌∙◌, append_assoc, append_nil, arith, length-append, length-drop}
+use Rattle.std.proofs.Common.{◌≡◌, ℕ, ◌+◌, ◌<◌, ◌≤◌, cond, eqb, List, [], ◌∷◌, ◌++◌, length, get_or, drop, Ok, Err, Result, sym, refl, ap, ◌∙◌, append_assoc, append-nil, arith, length-append, length-drop}
 use Rattle.std.specs.List.{join_with_byte}
 use Rattle.std.proofs.lemmas.Bool.{eq-eqb, ne_eqb}
 use Rattle.std.proofs.lemmas.List.{drop_more, drop_all}
@@ -24,7 +24,7 @@ use Rattle.sheet.proofs.Sheets.{ended_pieces}
 -- ended lines, and the pieces after them
 rejoined_more : (ls : List (List ℕ)) (q : List ℕ) (qs : List (List ℕ)) → join_with_byte 10 (ls ++ q ∷ qs) ≡ lines_text ls ++ join_with_byte 10 (q ∷ qs)
 rejoined_more [] q qs = refl
-rejoined_more (l ∷ []) q qs = sym (append_assoc l (10 ∷ []) _) ∙ ap (λ z. z ++ join_with_byte 10 (q ∷ qs)) (sym (append_nil (l ++ 10 ∷ [])))
+rejoined_more (l ∷ []) q qs = sym (append_assoc l (10 ∷ []) _) ∙ ap (λ z. z ++ join_with_byte 10 (q ∷ qs)) (sym (append-nil (l ++ 10 ∷ [])))
 rejoined_more (l ∷ m ∷ ls) q qs = ap (λ z. l ++ (10 ∷ z)) (rejoined_more (m ∷ ls) q qs) ∙ sym (append_assoc l (10 ∷ []) _) ∙ sym (append_assoc (l ++ 10 ∷ []) (lines_text (m ∷ ls)) _)
 
 -- a text that begins with some lines
@@ -103,4 +103,4 @@ module _ (total : Result (List Item) Fault) (done : List Item) (cs : List Conten
     pub places_all : length s ≤ at → total ≡ Ok done
     places_all l =
         let none : length (drop at s) ≡ 0 = omega (arith, length-drop at s) in
-        at_end ∙ ap (λ t. and_then (cond t (Ok []) (Err (fault WrongForm first layer.Body))) (λ hs. Ok (done ++ parts_from first at hs))) (eq-eqb (length (drop at s)) 0 none) ∙ ap Ok (append_nil done)
+        at_end ∙ ap (λ t. and_then (cond t (Ok []) (Err (fault WrongForm first layer.Body))) (λ hs. Ok (done ++ parts_from first at hs))) (eq-eqb (length (drop at s)) 0 none) ∙ ap Ok (append-nil done)

@@ -25,11 +25,11 @@ returns-then-is_unfit c =
     ap Some c.contents_place.ensures
     ∙ sym (c.loop-i.invariant.0 ∙ unfit_here c.args.room (c.loop-i.i + 2) c.loop-i.first c.loop-i.at c.loop-i.start c.args.heads.now c.loop-i.i none c.loop-i-test.true c.line_size-line.result c.line_size-line.ensures.size c.if-is_unfit.ensures)
 
-pub overflow-add-at : goal.overflow-add-at
-overflow-add-at c = omega (arith, c.loop-i.invariant.2, c.line_size-line.ensures.short)
+pub overflow_add-at : goal.overflow_add-at
+overflow_add-at c = omega (arith, c.loop-i.invariant.2, c.line_size-line.ensures.short)
 
-pub overflow-add-start : goal.overflow-add-start
-overflow-add-start c =
+pub overflow_add-start : goal.overflow_add-start
+overflow_add-start c =
     let size = fitting_size c.args.room c.loop-i.at c.line_size-line.result c.loop-i.start (get_or c.args.heads.now c.loop-i.i none).size c.if-is_unfit.ensures in
     omega (arith, c.loop-i.invariant.3, size)
 

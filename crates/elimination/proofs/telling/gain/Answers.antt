@@ -22,8 +22,8 @@ returns-then-not-is_legal c =
       between = tt;
     }
 
-pub returns-in-err-pair : goal.returns-in-err-pair
-returns-in-err-pair c =
+pub returns-in_err-pair : goal.returns-in_err-pair
+returns-in_err-pair c =
     let e = err_from_is_err_and c.from_residual.result c.from_residual.ensures.1 in
     let m = c.args.matrix.now in
     let g = c.args.gate in
@@ -31,7 +31,7 @@ returns-in-err-pair c =
     record {
       told = record {
         illegal = λ off. absurd (both_ways (cnot_legal m.lines g) off on);
-        legal = λ _. clash_told m (map_gain m.lines (image (rows_of m)) c.args.end g) c.in-err-pair.field-0.0 c.from_residual.result c.in-err-pair.ensures (e.1 ∙ ap Err e.2);
+        legal = λ _. clash_told m (map_gain m.lines (image (rows_of m)) c.args.end g) c.in_err-pair.field-0.0 c.from_residual.result c.in_err-pair.ensures (e.1 ∙ ap Err e.2);
       };
       between = MatchResult-from_err _ _ _ c.from_residual.ensures.0 (λ _. tt);
     }
@@ -42,8 +42,8 @@ returns c =
     let n = m.lines in
     let e = c.args.end in
     let g = c.args.gate in
-    let p = c.in-ok-pair.pair in
-    let is = c.in-ok-pair.ensures in
+    let p = c.in_ok-pair.pair in
+    let is = c.in_ok-pair.ensures in
     let on : cnot_legal n g ≡ true = ap (λ (k : ℕ). cnot_legal k g) (sym c.lines.ensures.count) ∙ sym c.is_legal.ensures ∙ c.if-not-is_legal.false in
     let after : c.cost_after.result ≡ cost (place_at e g (state_of p)) = c.cost_after.ensures.value ∙ ap (λ (x : Placed). cost (pairs.place x (state_of p))) c.added_line-from.ensures in
     let fits : SFits w32 c.difference.result = omega (arith, ints, c.difference.ensures, c.cost-before.ensures.small, c.cost_after.ensures.small) in

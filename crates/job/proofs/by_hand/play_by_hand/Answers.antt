@@ -32,10 +32,10 @@ loop-at-preserved g c =
     let opening = c.in-Ok.ensures in
     let r = c.edit-answer.result in
     let b₂ = c.edit-answer.new.book in
-    let s = get_or ss' at c.index-steps_at.result in
+    let s = get_or ss' at c.index-steps-at.result in
     let h : at < length ss' = omega arith in
     let done = edit_steps K law m.lines room g.P.Piece.meaning c.loop-at.piece c.edit-answer.new.piece b₁ b₂ r p.paper p.stands p.kept.room c.in-Ok.ticket.lines opening.1.lines s.call c.edit-answer.ensures.answer c.edit-answer.ensures.after in
-    playing_next K R (λ _ _. Unit {0}) m b ss law at ss' m₁ b₁ p (done_whole K law m.lines) (g.P.Piece.meaning c.edit-answer.new.piece) b₂ s r h (ap (get_or ss' at) c.index-steps_at.is) done tt
+    playing_next K R (λ _ _. Unit {0}) m b ss law at ss' m₁ b₁ p (done_whole K law m.lines) (g.P.Piece.meaning c.edit-answer.new.piece) b₂ s r h (ap (get_or ss' at) c.index-steps-at.is) done tt
 
 pub returns : goal.returns
 returns g c =
@@ -55,12 +55,12 @@ returns g c =
 pub returns-in-Err : goal.returns-in-Err
 returns-in-Err g c = let e = c.in-Err.ensures in (e.0, (refl, e.1, refl))
 
-pub offset-bounds-steps_at : goal.offset-bounds-steps_at
-offset-bounds-steps_at g c =
+pub offset_bounds-steps-at : goal.offset_bounds-steps-at
+offset_bounds-steps-at g c =
     let h : c.loop-at.at < length c.args.steps.now = omega arith in
     scaled_Fits _ (length c.args.steps.now) _ h (search rules)
 
-pub offset-bounds-steps_at-in-loop-at : goal.offset-bounds-steps_at-in-loop-at
-offset-bounds-steps_at-in-loop-at g c =
+pub offset_bounds-steps-at-in-loop-at : goal.offset_bounds-steps-at-in-loop-at
+offset_bounds-steps-at-in-loop-at g c =
     let h : c.loop-at.at < length c.args.steps.now = omega arith in
     scaled_Fits _ (length c.args.steps.now) _ h (search rules)

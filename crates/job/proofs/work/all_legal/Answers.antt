@@ -14,8 +14,8 @@ returns-then-not-is_legal g c =
     not_sound g.G.Gate.kind c.args.n (ends c.args.book.now) c.loop-gate.at c.in-Some.gate (sym c.in-Some.ensures)
     (sym c.if-not-is_legal.ensures)
 
-pub overflow-add-at : goal.overflow-add-at
-overflow-add-at g c =
+pub overflow_add-at : goal.overflow_add-at
+overflow_add-at g c =
     let b = c.args.book.now in
     record { fits = omega (arith, circuit_fits b, nth_within (circuit (ends b)) c.loop-gate.at c.in-Some.gate (sym c.in-Some.ensures)) }
 

@@ -10,8 +10,8 @@ use Rattle.job.proofs.work.feed_circuit.Goals as goal
 pub loop-gate-init : goal.loop-gate-init
 loop-gate-init g c = fed_none g.G.Gate.kind (g.T.Taker.meaning c.args.taker.now)
 
-pub overflow-add-at : goal.overflow-add-at
-overflow-add-at g c =
+pub overflow_add-at : goal.overflow_add-at
+overflow_add-at g c =
     let b = c.args.book.now in
     record { fits = omega (arith, circuit_fits b, nth_within (circuit (ends b)) c.loop-gate.at c.in-Some.gate (sym c.in-Some.ensures)) }
 

@@ -9,24 +9,24 @@ use Rattle.sheet.proofs.body.next_entry.Goals as goal
 use Rattle.sheet.proofs.body.next_entry.Goals.{After-read_entry}
 
 -- what `read_entry` answered
-told : (c : After-read_entry) → c.read_entry.result ≡ placed Body (c.args.body.first + c.args.at) (body_line c.args.body.kind c.args.body.lines c.args.at c.in-ok-text.text.now)
+told : (c : After-read_entry) → c.read_entry.result ≡ placed Body (c.args.body.first + c.args.at) (body_line c.args.body.kind c.args.body.lines c.args.at c.in_ok-text.text.now)
 told c =
     let named = c.body_line.ensures in
     c.read_entry.ensures ∙ (λ j. placed Body ((named.number ∙ c.line_number-number.ensures) j) (body_line (named.kind j) c.args.body.lines c.args.at (named.text j)))
 
-pub returns-in-err-text : goal.returns-in-err-text
-returns-in-err-text c =
+pub returns-in_err-text : goal.returns-in_err-text
+returns-in_err-text c =
     let p = err_from_is_err_and c.from_residual.result c.from_residual.ensures.1 in
-    let e = c.in-err-text.ensures in
+    let e = c.in_err-text.ensures in
     rw (p.1, p.2)
     (line_ends Body _ (body_line c.args.body.kind c.args.body.lines c.args.at) c.args.rest.now e.1 ∙ ap Err (ap (λ i. fault WrongForm i Body) (sym c.line_number-number.ensures) ∙ sym e.0))
 
-pub returns-in-err-entry : goal.returns-in-err-entry
-returns-in-err-entry c =
-    let p = err_from_is_err_and c.from_residual-in-err-entry.result c.from_residual-in-err-entry.ensures.1 in
+pub returns-in_err-entry : goal.returns-in_err-entry
+returns-in_err-entry c =
+    let p = err_from_is_err_and c.from_residual-in_err-entry.result c.from_residual-in_err-entry.ensures.1 in
     rw (p.1, p.2)
-    (line_err Body _ (body_line c.args.body.kind c.args.body.lines c.args.at) c.args.rest.now _ c.in-ok-text.after.now _ c.in-ok-text.ensures (sym (told (goal.at.returns-in-err-entry c).After-read_entry) ∙ c.in-err-entry.was))
+    (line_err Body _ (body_line c.args.body.kind c.args.body.lines c.args.at) c.args.rest.now _ c.in_ok-text.after.now _ c.in_ok-text.ensures (sym (told (goal.at.returns-in_err-entry c).After-read_entry) ∙ c.in_err-entry.was))
 
 pub returns : goal.returns
 returns c =
-    line_ok Body _ (body_line c.args.body.kind c.args.body.lines c.args.at) c.args.rest.now _ c.in-ok-text.after.now _ c.in-ok-text.ensures (sym (told (goal.at.returns c).After-read_entry) ∙ c.in-ok-entry.was)
+    line_ok Body _ (body_line c.args.body.kind c.args.body.lines c.args.at) c.args.rest.now _ c.in_ok-text.after.now _ c.in_ok-text.ensures (sym (told (goal.at.returns c).After-read_entry) ∙ c.in_ok-entry.was)

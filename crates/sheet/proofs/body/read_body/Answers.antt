@@ -6,10 +6,10 @@ use Rattle.sheet.proofs.Accepted.{err_then}
 use Rattle.sheet.proofs.Holding.{filled}
 use Rattle.sheet.proofs.body.read_body.Goals as goal
 
-pub returns-in-err-check_body : goal.returns-in-err-check_body
-returns-in-err-check_body c =
+pub returns-in_err-check_body : goal.returns-in_err-check_body
+returns-in_err-check_body c =
     let p = err_from_is_err_and c.from_residual.result c.from_residual.ensures.1 in
-    let stop = sym c.check_body.ensures ∙ c.in-err-check_body.was in
+    let stop = sym c.check_body.ensures ∙ c.in_err-check_body.was in
     let held = err_then (held_by c.args.body) (λ (es : List Entry). length es) _ stop in
     record {
       answer = p.1 ∙ ap Err p.2 ∙ sym stop;
@@ -19,7 +19,7 @@ returns-in-err-check_body c =
 
 pub returns : goal.returns
 returns c =
-    let fine = c.read_lines.ensures.answer ∙ sym c.check_body.ensures ∙ c.in-ok-check_body.was in
+    let fine = c.read_lines.ensures.answer ∙ sym c.check_body.ensures ∙ c.in_ok-check_body.was in
     let laid = subst (λ r. Fills r (held_by c.args.body) c.args.entries.now c.read_lines.new.entries) fine c.read_lines.ensures.entries in
     record {
       answer = c.read_lines.ensures.answer;

@@ -13,22 +13,22 @@ use Rattle.sheet.proofs.body.read_lines.Goals as goal
 pub loop-at-init : goal.loop-at-init
 loop-at-init c = ([], refl, rw sub-zero (after_none _), laid_none _)
 
-pub returns-in-err-entry : goal.returns-in-err-entry
-returns-in-err-entry c =
+pub returns-in_err-entry : goal.returns-in_err-entry
+returns-in_err-entry c =
     let b = c.args.body in
     let p = err_from_is_err_and c.from_residual.result c.from_residual.ensures.1 in
     let inv = c.loop-at.invariant in
-    let stop = body_stop b.kind b.lines b.first _ inv.0 c.loop-at.at b.count _ inv.2 c.loop-at-test.true _ c.in-err-entry.ensures in
+    let stop = body_stop b.kind b.lines b.first _ inv.0 c.loop-at.at b.count _ inv.2 c.loop-at-test.true _ c.in_err-entry.ensures in
     rw (p.1, p.2) (record { answer = sym (ap how_many (held_stop b.kind b.lines b.count b.first b.part.now (sym c.if-not-is_told.ensures) _ stop)); entries = tt })
 
 pub loop-at-preserved : goal.loop-at-preserved
 loop-at-preserved c =
     let b = c.args.body in
     let inv = c.loop-at.invariant in
-    let entry = c.in-ok-entry.entry in (
+    let entry = c.in_ok-entry.entry in (
       inv.0 ++ entry ∷ [],
       omega (arith, length-append inv.0 (entry ∷ []), inv.1),
-      body_more b.kind b.lines b.first _ inv.0 c.loop-at.at b.count _ inv.2 c.loop-at-test.true _ _ c.in-ok-entry.ensures,
+      body_more b.kind b.lines b.first _ inv.0 c.loop-at.at b.count _ inv.2 c.loop-at-test.true _ _ c.in_ok-entry.ensures,
       c.lay.ensures ∙ (λ j. set (inv.3 j) (sym inv.1 j) entry) ∙ laid_more c.args.entries.now inv.0 entry,
     )
 

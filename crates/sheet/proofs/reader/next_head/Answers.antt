@@ -8,15 +8,15 @@ use Rattle.sheet.proofs.reader.next_head.Goals as goal
 use Rattle.sheet.proofs.reader.next_head.Goals.{After-at_line}
 
 -- what `at_line` answered
-told : (c : After-at_line) → c.at_line.result ≡ placed Contents 1 (head c.in-ok-text.text.now)
+told : (c : After-at_line) → c.at_line.result ≡ placed Contents 1 (head c.in_ok-text.text.now)
 told c = c.at_line.ensures ∙ ap (placed Contents 1) c.read_head.ensures
 
-pub returns-in-err-count : goal.returns-in-err-count
-returns-in-err-count c =
-    let p = err_from_is_err_and c.from_residual-in-err-count.result c.from_residual-in-err-count.ensures.1 in
+pub returns-in_err-count : goal.returns-in_err-count
+returns-in_err-count c =
+    let p = err_from_is_err_and c.from_residual-in_err-count.result c.from_residual-in_err-count.ensures.1 in
     rw (p.1, p.2)
-    (line_err Contents _ head c.args.sheet.now _ c.in-ok-text.after.now _ c.in-ok-text.ensures (sym (told (goal.at.returns-in-err-count c).After-at_line) ∙ c.in-err-count.was))
+    (line_err Contents _ head c.args.sheet.now _ c.in_ok-text.after.now _ c.in_ok-text.ensures (sym (told (goal.at.returns-in_err-count c).After-at_line) ∙ c.in_err-count.was))
 
 pub returns : goal.returns
 returns c =
-    line_ok Contents _ head c.args.sheet.now _ c.in-ok-text.after.now _ c.in-ok-text.ensures (sym (told (goal.at.returns c).After-at_line) ∙ c.in-ok-count.was)
+    line_ok Contents _ head c.args.sheet.now _ c.in_ok-text.after.now _ c.in_ok-text.ensures (sym (told (goal.at.returns c).After-at_line) ∙ c.in_ok-count.was)

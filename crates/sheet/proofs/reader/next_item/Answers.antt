@@ -14,13 +14,13 @@ fine c = and_from _ _ c.requires.0.0 (lt-ltb (c.args.first + c.args.contents.cou
 ends : (c : After-check_body) → LinesEnd (drop c.args.start c.args.sheet.now) c.args.contents.count c.lines_end.result
 ends c = rw take_rest at c.lines_end.ensures
 
-pub returns-in-err-check_body : goal.returns-in-err-check_body
-returns-in-err-check_body c =
+pub returns-in_err-check_body : goal.returns-in_err-check_body
+returns-in_err-check_body c =
     let p = err_from_is_err_and c.from_residual.result c.from_residual.ensures.1 in
-    let d = (goal.at.returns-in-err-check_body c).After-check_body in
+    let d = (goal.at.returns-in_err-check_body c).After-check_body in
     let held = cut_held c.args.sheet.now c.args.contents c.args.first c.args.start c.lines_end.result c.in-Some.body c.in-Some.ensures in
     rw (p.1, p.2)
-    (next_stop c.args.contents c.args.first (drop c.args.start c.args.sheet.now) c.lines_end.result (fine d) (ends d) _ (sym (ap how_many held) ∙ sym c.check_body.ensures ∙ c.in-err-check_body.was))
+    (next_stop c.args.contents c.args.first (drop c.args.start c.args.sheet.now) c.lines_end.result (fine d) (ends d) _ (sym (ap how_many held) ∙ sym c.check_body.ensures ∙ c.in_err-check_body.was))
 
 pub returns : goal.returns
 returns c =
@@ -32,6 +32,6 @@ returns c =
       ordered = omega arith;
       within = leb-true _ _ (and_parts _ _ cut.lies).1;
       rest =
-          next_rest c.args.contents c.args.first (drop c.args.start c.args.sheet.now) c.lines_end.result (fine d) (ends d) _ (sym (ap how_many held) ∙ sym c.check_body.ensures ∙ c.in-ok-check_body.was)
+          next_rest c.args.contents c.args.first (drop c.args.start c.args.sheet.now) c.lines_end.result (fine d) (ends d) _ (sym (ap how_many held) ∙ sym c.check_body.ensures ∙ c.in_ok-check_body.was)
           ∙ ap (λ z. Ok (pieces 10 z)) (drop-drop c.lines_end.result c.args.start c.args.sheet.now);
     }

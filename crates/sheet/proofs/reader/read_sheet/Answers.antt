@@ -13,30 +13,30 @@ returns-then-not-has_length c =
     let p = ap Err c.in_contents.ensures ∙ length_stop c.args.sheet.now (sym c.if-not-has_length.ensures) in
     record { reads = p; law = lawful c.args.sheet.now _ p }
 
-pub returns-in-err-count : goal.returns-in-err-count
-returns-in-err-count c =
+pub returns-in_err-count : goal.returns-in_err-count
+returns-in_err-count c =
     let e = err_from_is_err_and c.from_residual.result c.from_residual.ensures.1 in
-    let p = ap items_of e.1 ∙ ap Err e.2 ∙ head_stop c.args.sheet.now (sym c.if-not-has_length.ensures) _ c.in-err-count.ensures in
+    let p = ap items_of e.1 ∙ ap Err e.2 ∙ head_stop c.args.sheet.now (sym c.if-not-has_length.ensures) _ c.in_err-count.ensures in
     record { reads = p; law = lawful c.args.sheet.now _ p }
 
-pub returns-in-err-contents : goal.returns-in-err-contents
-returns-in-err-contents c =
-    let e = err_from_is_err_and c.from_residual-in-err-contents.result c.from_residual-in-err-contents.ensures.1 in
-    let p = ap items_of e.1 ∙ ap Err e.2 ∙ contents_stop c.args.sheet.now (sym c.if-not-has_length.ensures) _ c.in-ok-count.rest.now c.in-ok-count.ensures _ c.in-err-contents.ensures in
+pub returns-in_err-contents : goal.returns-in_err-contents
+returns-in_err-contents c =
+    let e = err_from_is_err_and c.from_residual-in_err-contents.result c.from_residual-in_err-contents.ensures.1 in
+    let p = ap items_of e.1 ∙ ap Err e.2 ∙ contents_stop c.args.sheet.now (sym c.if-not-has_length.ensures) _ c.in_ok-count.rest.now c.in_ok-count.ensures _ c.in_err-contents.ensures in
     record { reads = p; law = lawful c.args.sheet.now _ p }
 
-pub overflow-sub-sheet : goal.overflow-sub-sheet
-overflow-sub-sheet c =
-    tail_short c.args.sheet.now (sym c.if-not-has_length.ensures) _ c.in-ok-count.rest.now c.in-ok-count.ensures _ c.in-ok-contents.bodies.now c.in-ok-contents.ensures
+pub overflow_sub-sheet : goal.overflow_sub-sheet
+overflow_sub-sheet c =
+    tail_short c.args.sheet.now (sym c.if-not-has_length.ensures) _ c.in_ok-count.rest.now c.in_ok-count.ensures _ c.in_ok-contents.bodies.now c.in_ok-contents.ensures
 
 pub read_bodies-requires : goal.read_bodies-requires
 read_bodies-requires c =
-    let k = head_small (pieces 10 c.args.sheet.now) _ _ c.in-ok-count.ensures in
-    let s = contents_lines_sound _ 2 _ (pieces 10 c.in-ok-count.rest.now) _ _ c.in-ok-contents.ensures in
+    let k = head_small (pieces 10 c.args.sheet.now) _ _ c.in_ok-count.ensures in
+    let s = contents_lines_sound _ 2 _ (pieces 10 c.in_ok-count.rest.now) _ _ c.in_ok-contents.ensures in
     rw sub-zero (omega (arith, s.0, k.1), (s.1, omega arith))
 
 pub returns : goal.returns
 returns c =
-    let placed = sheet_placed c.args.sheet.now (sym c.if-not-has_length.ensures) _ c.in-ok-count.rest.now c.in-ok-count.ensures _ c.in-ok-contents.bodies.now c.in-ok-contents.ensures in
+    let placed = sheet_placed c.args.sheet.now (sym c.if-not-has_length.ensures) _ c.in_ok-count.rest.now c.in_ok-count.ensures _ c.in_ok-contents.bodies.now c.in_ok-contents.ensures in
     let p = (rw sub-zero at c.read_bodies.ensures) ∙ placed in
     record { reads = p; law = lawful c.args.sheet.now _ p }

@@ -11,11 +11,11 @@ returns-then-not-is_ascii_digit c =
     sym (cond-true _ _ _ (sym c.if-not-is_sized.ensures) ∙ sym c.loop-d.invariant.0
     ∙ digits_stop _ c.args.ds.now _ c.loop-d-test.true (sym c.if-not-is_ascii_digit.ensures.value))
 
-pub overflow-mul-n : goal.overflow-mul-n
-overflow-mul-n c = omega (arith, below_five _ _ c.loop-d.invariant.1 (omega arith))
+pub overflow_mul-n : goal.overflow_mul-n
+overflow_mul-n c = omega (arith, below_five _ _ c.loop-d.invariant.1 (omega arith))
 
-pub overflow-add-n : goal.overflow-add-n
-overflow-add-n c = omega (arith, below_five _ _ c.loop-d.invariant.1 (omega arith), c.if-not-is_ascii_digit.ensures.cases)
+pub overflow_add-n : goal.overflow_add-n
+overflow_add-n c = omega (arith, below_five _ _ c.loop-d.invariant.1 (omega arith), c.if-not-is_ascii_digit.ensures.cases)
 
 pub loop-d-preserved : goal.loop-d-preserved
 loop-d-preserved c = (

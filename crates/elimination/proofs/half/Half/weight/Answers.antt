@@ -2,8 +2,8 @@ use Rattle.std.proofs.Common.{ℕ, ◌+◌, ◌^◌, ◌<◌, get_or, ap₂, ari
 use Rattle.elimination.proofs.Additions.{off_is, off_few}
 use Rattle.elimination.proofs.half.Half.weight.Goals as goal
 
-pub overflow-add-result : goal.overflow-add-result
-overflow-add-result c =
+pub overflow_add-result : goal.overflow_add-result
+overflow_add-result c =
     let h = c.args.self.now in
     let x : get_or h.first c.args.to 0 < 2 ^ 64 = search rules in
     let y : get_or h.second c.args.from 0 < 2 ^ 64 = search rules in

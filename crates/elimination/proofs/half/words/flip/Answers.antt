@@ -1,4 +1,4 @@
-use Rattle.std.proofs.Common.{ℕ, List, ◌++◌, map, get_or, set, ap, ◌∙◌, ap₂, append_nil, arith}
+use Rattle.std.proofs.Common.{ℕ, List, ◌++◌, map, get_or, set, ap, ◌∙◌, ap₂, append-nil, arith}
 use Rattle.std.proofs.lemmas.List.Edits.{map_over_more}
 use Rattle.std.proofs.lemmas.List.{get_or_default, take_all, drop_all}
 use Rattle.matrices.proofs.Turns.{turned}
@@ -19,4 +19,4 @@ unfolding add_column
 returns c =
     c.loop-word.invariant
     ∙ ap₂ (λ (a b : List ℕ). map (turned c.args.from c.args.to) a ++ b) (take_all c.loop-word.word-index c.args.words.now (omega arith)) (drop_all c.loop-word.word-index c.args.words.now (omega arith))
-    ∙ append_nil _
+    ∙ append-nil _

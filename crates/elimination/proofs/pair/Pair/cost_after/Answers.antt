@@ -9,20 +9,20 @@ use Rattle.elimination.specs.Layouts.{state_of}
 use Rattle.elimination.proofs.States.{cost_small, cost_after_is, cost_after_small}
 use Rattle.elimination.proofs.pair.Pair.cost_after.Goals as goal
 
-pub overflow-add-result : goal.overflow-add-result
-overflow-add-result c = omega (arith, c.requires.sound.counted, cost_small c.args.self.now c.requires.sound, c.weight_after.ensures.small)
+pub overflow_add-result : goal.overflow_add-result
+overflow_add-result c = omega (arith, c.requires.sound.counted, cost_small c.args.self.now c.requires.sound, c.weight_after.ensures.small)
 
-pub overflow-add-result-in-Input : goal.overflow-add-result-in-Input
-overflow-add-result-in-Input c = omega (arith, c.requires.sound.counted, cost_small c.args.self.now c.requires.sound, c.weight_after-in-Input.ensures.small)
+pub overflow_add-result-in-Input : goal.overflow_add-result-in-Input
+overflow_add-result-in-Input c = omega (arith, c.requires.sound.counted, cost_small c.args.self.now c.requires.sound, c.weight_after-in-Input.ensures.small)
 
-pub overflow-sub-result : goal.overflow-sub-result
-overflow-sub-result c =
+pub overflow_sub-result : goal.overflow_sub-result
+overflow_sub-result c =
     let p = c.args.self.now in
     let w = c.weight.ensures.value ∙ ap (λ (h : Half). weigh c.args.from c.args.to h.first h.second) c.weight_after.ensures.same in
     omega (arith, w, c.weight_after.ensures.value, c.requires.sound.counted, cost_after_is p c.requires.sound c.args.from c.args.to c.requires.from c.requires.to Output)
 
-pub overflow-sub-result-in-Input : goal.overflow-sub-result-in-Input
-overflow-sub-result-in-Input c =
+pub overflow_sub-result-in-Input : goal.overflow_sub-result-in-Input
+overflow_sub-result-in-Input c =
     let p = c.args.self.now in
     let w = c.weight-in-Input.ensures.value ∙ ap (λ (h : Half). weigh c.args.from c.args.to h.first h.second) c.weight_after-in-Input.ensures.same in
     omega (arith, w, c.weight_after-in-Input.ensures.value, c.requires.sound.counted, cost_after_is p c.requires.sound c.args.from c.args.to c.requires.from c.requires.to Input)

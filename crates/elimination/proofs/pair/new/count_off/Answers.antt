@@ -7,8 +7,8 @@ use Rattle.elimination.proofs.pair.new.count_off.Goals as goal
 pub loop-i-init : goal.loop-i-init
 loop-i-init c = (counted_none c.args.words.now, omega arith)
 
-pub overflow-add-count : goal.overflow-add-count
-overflow-add-count c =
+pub overflow_add-count : goal.overflow_add-count
+overflow_add-count c =
     let fits : get_or c.args.words.now c.loop-i.i 0 < 2 ^ 64 = search rules in
     omega (arith, (counted_more c.args.words.now c.loop-i.i c.loop-i.count (omega arith) fits c.loop-i.invariant).1)
 

@@ -26,10 +26,10 @@ returns g c =
     record {
       answer = put_answer K n m b c.args.end same c.args.gate c.if-not-is_legal.ensures c.push.result c.push.ensures.answer;
       after = put_done K n m b c.args.end same c.args.gate c.if-not-is_legal.ensures c.push.result c.push.ensures.answer
-          (g.P.Piece.meaning p') b' ((p' ≡ p) × (b' ≡ b)) room c.in-ok-give.ensures.after c.push.ensures.after c.push.ensures.kept;
+          (g.P.Piece.meaning p') b' ((p' ≡ p) × (b' ≡ b)) room c.in_ok-give.ensures.after c.push.ensures.after c.push.ensures.kept;
     }
 
-pub returns-in-err-give : goal.returns-in-err-give
-returns-in-err-give g c =
+pub returns-in_err-give : goal.returns-in_err-give
+returns-in_err-give g c =
     absurd (put_given g.G.Gate.kind c.args.self.now.lines (g.P.Piece.meaning c.args.piece.now) c.args.book.now c.args.end
-    (c.if-self-lines.false ∙ c.lines.ensures.count) c.args.gate c.if-not-is_legal.ensures _ c.in-err-give.ensures.answer)
+    (c.if-self-lines.false ∙ c.lines.ensures.count) c.args.gate c.if-not-is_legal.ensures _ c.in_err-give.ensures.answer)

@@ -3,7 +3,7 @@ use Rattle.mapping.proofs.rule.RowMappingRuleMctTable.run.Goals as goal
 
 pub returns : goal.returns
 returns c =
-    let told = c.in-ok-can_run.ensures in
+    let told = c.in_ok-can_run.ensures in
     let rows = c.map_rows.ensures in
     record {
       answer = told.answer;
