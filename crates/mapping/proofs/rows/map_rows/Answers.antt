@@ -48,12 +48,12 @@ loop-word-preserved c =
       | then-is_better v ↦ (
         subst (λ (k : ℕ). k < 2 ^ c.rows.draft.lines) (sym v.best-is) word,
         look_better t 16 i w b l r _ _ c.loop-word.invariant.1 c.loop-word.auto.word c.total_of-total.ensures.is c.if-total-eq0.false
-            (ltb-true r l (sym v.if-is_better.ensures)) v.best-is v.least_is,
+            (ltb-true r l (sym v.if-is_better.ensures)) v.best-is v.least-is,
       )
       | else-is_better v ↦ (
         subst (λ (k : ℕ). k < 2 ^ c.rows.draft.lines) (sym v.best-is) c.loop-word.invariant.0,
         look_worse t 16 i w b l r _ _ c.loop-word.invariant.1 c.loop-word.auto.word c.total_of-total.ensures.is c.if-total-eq0.false
-            c.total_of-total.ensures.small (ltb-false r l (sym v.if-is_better.ensures)) v.best-is v.least_is,
+            c.total_of-total.ensures.small (ltb-false r l (sym v.if-is_better.ensures)) v.best-is v.least-is,
       )
     ]
 

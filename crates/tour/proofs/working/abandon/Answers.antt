@@ -11,5 +11,5 @@ unreachable-requires g c =
     let t = c.args.ticket in
     let n = (g.P.Piece.meaning c.args.piece.now).lines in
     let es = ends c.args.book.now in
-    never_declined c.in-Err.-ticket t c.in-Err.-why (spoilt K t.lines n es None)
+    never_declined c.in-Err._ticket t c.in-Err._why (spoilt K t.lines n es None)
     (spoilt_none K t.lines n es None c.requires.lines (sym c.requires.legal)) (sym c.in-Err.is ∙ c.give_up.ensures.answer)
