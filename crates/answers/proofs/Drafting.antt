@@ -1,11 +1,11 @@
 -- One answer more in a draft.
-use Rattle.std.proofs.Common.{◌≡◌, ℕ, suc, ◌+◌, ◌-◌, ◌<◌, ◌⊎◌, List, [], ◌∷◌, ◌++◌, length, take, set, sym, refl, ap, ◌∙◌, ⊎_elim, append_assoc, add-zero, arith, length-append, length-set}
+use Rattle.std.proofs.Common.{◌≡◌, ℕ, suc, ◌+◌, ◌-◌, ◌<◌, List, [], ◌∷◌, ◌++◌, length, take, set, sym, refl, ap, ◌∙◌, ⊎_elim, append_assoc, add-zero, arith, length-append, length-set}
 use Rattle.std.proofs.lemmas.List.{append-nil, set_past, take_all, take-append-le, take_more_set, length_push, map_push}
 use Rattle.std.proofs.lemmas.Bool.{cases_lt}
 use Rattle.sheet.specs.Render.{lines_text}
 use Rattle.answers.specs.declared.draft.Draft.{Draft}
 use Rattle.answers.specs.declared.head.AnswerKind.{AnswerKind}
-use Rattle.answers.specs.Answers.{Answer, kind, body, head, bodies}
+use Rattle.answers.specs.Answers.{Answer, body, head, bodies}
 use Rattle.answers.specs.Drafts.{Drafts, Is}
 use Rattle.answers.specs.Laid.{laid, Puts}
 

@@ -1,7 +1,7 @@
 -- What no call on a book changes.
 use Rattle.std.proofs.Common.{◌≡◌, ℕ, ◌<◌, min, length, drop, refl, ap, ◌∙◌, length-set}
 use Rattle.std.proofs.lemmas.List.{drop-set-lt}
-use Rattle.books.specs.Books.{places, Kept}
+use Rattle.books.specs.Books.{Kept}
 use Rattle.books.specs.Places.{written}
 use Rattle.books.specs.declared.Book.{Book}
 

@@ -1,8 +1,8 @@
 // One layout of a matrix and its inverse.
 ghost use Rattle.std.specs.Prelude.{◌≡◌, length};
 
+mod entries;
 mod trial;
-mod words;
 
 // For the output end: the rows of the matrix and the columns of the inverse.
 // For the input end: the columns of the matrix and the rows of the inverse.

@@ -8,7 +8,7 @@ use Rattle.std.specs.Int.Bits.{xor_assoc, xor_zero_r, xor_self}
 use Rattle.std.proofs.Math.Pow.{pow-lt}
 use Rattle.std.proofs.lemmas.Bool.{cases_Bool, cases_lt, lt-leb, cond-false, cond-true, le-leb, lt-ltb}
 use Rattle.std.proofs.lemmas.Bool.Decides.{nat_tests}
-use Rattle.words.specs.Words.{has, unit}
+use Rattle.words.specs.Words.{has}
 use Rattle.words.specs.Maps.{Linear}
 use Rattle.words.proofs.Bits.{has_xor}
 use Rattle.words.proofs.Flips.{flip_other, unit_power}

@@ -1,7 +1,6 @@
 use Rattle.std.proofs.Common.{◌≡◌, ℕ, ◌≤◌, List, length, Some, None, sym, refl, ap, ◌∙◌, subst}
-use Rattle.books.specs.Books.{ends, free}
+use Rattle.books.specs.Books.{free}
 use Rattle.clearing.specs.Clearing.{Placed}
-use Rattle.clearing.specs.Laws.{room}
 use Rattle.elimination.specs.Finds.{found, work_of}
 use Rattle.elimination.specs.Layouts.{state_of}
 use Rattle.elimination.specs.Lines.{best_line, trial_of}

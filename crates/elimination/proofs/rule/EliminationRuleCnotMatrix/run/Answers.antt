@@ -1,7 +1,7 @@
 use Rattle.std.proofs.Common.{ℕ, Ok, Err, refl, ap, ◌∙◌, subst, ap₂}
 use Rattle.std.proofs.lemmas.Result.{err_from_is_err_and, MatchResult-from_err}
 use Rattle.words.specs.Maps.{Identity}
-use Rattle.books.specs.Books.{ends, free}
+use Rattle.books.specs.Books.{ends}
 use Rattle.books.proofs.KeptLaws.{kept_none}
 use Rattle.matrices.specs.Matrices.{image}
 use Rattle.matrices.specs.Meanings.{rows_of}

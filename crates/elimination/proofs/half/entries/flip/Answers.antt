@@ -4,7 +4,7 @@ use Rattle.std.proofs.lemmas.List.{get_or_default, take_all, drop_all}
 use Rattle.matrices.proofs.Turns.{turned}
 use Rattle.matrices.specs.Matrices.{add_column}
 use Rattle.elimination.proofs.Additions.{flip_is}
-use Rattle.elimination.proofs.half.words.flip.Goals as goal
+use Rattle.elimination.proofs.half.entries.flip.Goals as goal
 
 pub loop-word-preserved : goal.loop-word-preserved
 loop-word-preserved c =
