@@ -4,7 +4,7 @@ use native.Mathlib.Nat.{div-eq_of_lt}
 use lib.Bits.{bit_and, bit_xor, and_le_l, xor_lt, xor_zero_r}
 use lib.Count.{ones, ones_step}
 use lib.Pow.{pow-lt}
-use Rattle.std.specs.List.{AllByRecursion as All}
+use Rattle.std.specs.List.{AllByRecursion}
 use Rattle.std.proofs.lemmas.Bool.{cases_eq, cases_lt, cond_both, cond-true, cond-false, and_from, and_right, eqb-true, eqb-false, lt-ltb, le-leb, eq-eqb, ne_eqb, not_from_false}
 use Rattle.words.specs.Words.{bit, has}
 use Rattle.words.proofs.Bits.{bit_lt, bit_of_xor, bit_power, bit_above, bit_none, same_bits}
@@ -48,11 +48,11 @@ module _ (n : ℕ) (g : Mct) (x : ℕ) where
 -- ---- rows of gates, one for each one of a word w, of k lines from i on
 
 -- what holds of the gate of each one holds of every gate of the row
-pub flips_all : (P : Mct → Type 0) (k i c w : ℕ) → ((j : ℕ) → bit w j ≡ 1 → P (gate c j)) → All P (map (gate c) (lines_from k i w))
+pub flips_all : (P : Mct → Type 0) (k i c w : ℕ) → ((j : ℕ) → bit w j ≡ 1 → P (gate c j)) → AllByRecursion P (map (gate c) (lines_from k i w))
 flips_all P zero i c w h = tt
 flips_all P (suc k) i c w h =
     let rest = flips_all P k (i + 1) c w h in
-    cond_both (has w i) _ _ (λ js. All P (map (gate c) js)) (λ q. (h i (eqb-true (bit w i) 1 q), rest)) (λ q. rest)
+    cond_both (has w i) _ _ (λ js. AllByRecursion P (map (gate c) js)) (λ q. (h i (eqb-true (bit w i) 1 q), rest)) (λ q. rest)
 
 next_half : (w i : ℕ) → w / 2 ^ i / 2 ≡ w / 2 ^ (i + 1)
 next_half w i = shr-shr w i 1

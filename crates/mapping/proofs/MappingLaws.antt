@@ -2,7 +2,7 @@
 use Rattle.std.proofs.Common.{◌≡◌, ℕ, zero, suc, ◌+◌, ◌-◌, ◌^◌, ◌<◌, ◌≤◌, min, true, cond, leb, List, [], ◌∷◌, length, sym, refl, ap, ◌∙◌, subst, ap₂, ⊎_elim, le_refl, lt_of_lt_of_le, div-one, arith, length-append, pow_mono}
 use lib.Bits.{bit_and, bit_xor, and_le_l, and_le_r, and_self, xor_lt}
 use lib.Count.{ones, ones-le}
-use Rattle.std.specs.List.{AllByRecursion as All}
+use Rattle.std.specs.List.{AllByRecursion}
 use Rattle.std.proofs.ByRecursion.{All-append}
 use Rattle.std.proofs.lemmas.Bool.{cases_lt, cond_both, cond-true, cond-false, leb-true, le-leb, lt-leb, and_from}
 use Rattle.words.specs.Words.{bit}
@@ -83,7 +83,7 @@ shrink_none c x e = e ∙ sym (ap (λ (w : ℕ). shrink_in w w x) e)
 
 -- ---- the two rows of gates
 
-pub legal_all : (n : ℕ) (gs : List Mct) → All (λ g. mct_legal n g ≡ true) gs → all_legal mct n gs ≡ true
+pub legal_all : (n : ℕ) (gs : List Mct) → AllByRecursion (λ g. mct_legal n g ≡ true) gs → all_legal mct n gs ≡ true
 legal_all n [] h = refl
 legal_all n (g ∷ gs) h = and_from (mct_legal n g) (all_legal mct n gs) h.0 (legal_all n gs h.1)
 

@@ -1,6 +1,6 @@
 -- Gates at the ends of a map, all at one end or first those at the input.
 use Rattle.std.proofs.Common.{◌≡◌, ℕ, ◌^◌, ◌<◌, true, List, [], ◌∷◌, ◌++◌, refl, ap, ◌∙◌}
-use Rattle.std.specs.List.{AllByRecursion as All}
+use Rattle.std.specs.List.{AllByRecursion}
 use Rattle.std.proofs.lemmas.Bool.{and_parts, and_from}
 use Rattle.gates.specs.Gates.{Kind, Lawful}
 use Rattle.gates.specs.Circuits.{through, all_legal}
@@ -32,11 +32,11 @@ module _ {G : Type 0} (K : Kind G) (n : ℕ) where
       ∙ ap (through K n hs) (moved_inputs gs f x)
 
   -- gates that each leave the words below i
-  pub through_spares : (i : ℕ) (gs : List G) → All (λ g. (z : ℕ) → z < i → K.act n g z ≡ z) gs → (z : ℕ) → z < i → through K n gs z ≡ z
+  pub through_spares : (i : ℕ) (gs : List G) → AllByRecursion (λ g. (z : ℕ) → z < i → K.act n g z ≡ z) gs → (z : ℕ) → z < i → through K n gs z ≡ z
   through_spares i [] s z h = refl
   through_spares i (g ∷ gs) s z h = ap (through K n gs) (s.0 z h) ∙ through_spares i gs s.1 z h
 
-  pub back_spares : (i : ℕ) (gs : List G) → All (λ g. (z : ℕ) → z < i → K.act n g z ≡ z) gs → (z : ℕ) → z < i → back K n gs z ≡ z
+  pub back_spares : (i : ℕ) (gs : List G) → AllByRecursion (λ g. (z : ℕ) → z < i → K.act n g z ≡ z) gs → (z : ℕ) → z < i → back K n gs z ≡ z
   back_spares i [] s z h = refl
   back_spares i (g ∷ gs) s z h = ap (K.act n g) (back_spares i gs s.1 z h) ∙ s.0 z h
 

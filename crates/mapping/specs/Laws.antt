@@ -1,6 +1,6 @@
 -- Why mapping rows is right: what a mapping does to words, and what a run comes to.
 use Rattle.std.specs.Prelude.{◌≡◌, ℕ, ◌+◌, ◌^◌, ◌<◌, ◌≤◌, true, length, bit_xor, count_ones}
-use Rattle.std.specs.List.{AllByRecursion as All}
+use Rattle.std.specs.List.{AllByRecursion}
 use Rattle.words.specs.Maps.{Keeps, Apart, Identity}
 use Rattle.gates.specs.Mcts.{mct}
 use Rattle.gates.specs.Circuits.{through, all_legal}
@@ -15,7 +15,7 @@ use Rattle.mapping.specs.Rows.{table_plan}
 pub record Mapped (n y x : ℕ) : Type 0 where
   pub legal : all_legal mct n (mapping y x) ≡ true
   pub sends : through mct n (mapping y x) y ≡ x
-  pub spares : All (λ g. (z : ℕ) → z < x → mct.act n g z ≡ z) (mapping y x)
+  pub spares : AllByRecursion (λ g. (z : ℕ) → z < x → mct.act n g z ≡ z) (mapping y x)
   pub few : length (mapping y x) ≤ n
   pub count : length (mapping y x) ≡ count_ones (outside (bit_xor x y) (shrink y x)) + count_ones (outside (shrink y x) x)
 
