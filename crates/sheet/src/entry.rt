@@ -1,6 +1,6 @@
 // What a line of a body holds: a row, an image or a gate.
 ghost use Rattle.std.specs.Prelude.{◌≡◌, ℕ, ◌+◌, ◌^◌, ◌<◌, ◌≤◌, nat_le};
-ghost use Rattle.gates.specs.Mcts.{mct as the-mcts};
+ghost use Rattle.gates.specs.Mcts.{mct as the_mcts};
 ghost use Rattle.sheet.specs.Form.{bit, byte, with_line, legal, row, image, cnot, mct};
 
 use crate::numbers::{first_number, read_pair};
@@ -127,7 +127,7 @@ impl Controls {
 
     // The gate with these controls, if it is legal on n lines.
     fn gate(self, target: u32, n: u8) -> Result<Mct, Refusal>
-        ensures { (w : ℕ) → self.set ≡ byte w → result ≡ legal the-mcts n (record { controls = w; target = target }) }
+        ensures { (w : ℕ) → self.set ≡ byte w → result ≡ legal the_mcts n (record { controls = w; target = target }) }
     {
         match (self.set, to_byte(target)) {
             (Some(controls), Some(target)) => if_legal(Mct { controls, target }, n),

@@ -1,8 +1,8 @@
 // The choice of a gate by its gain, on trial.
 ghost use Rattle.std.specs.Prelude.{◌≡◌, ◌+◌, ◌-◌, ◌<◌, false, ◌≢◌, if◌then◌else◌, None, nat_lt};
 ghost use Rattle.gates.specs.declared.end.End.TheVariants.{Output};
-ghost use Rattle.clearing.specs.Clearing.{adding, line, best as best-gate, helpers, pivots};
-ghost use Rattle.clearing.specs.Pairs.{pairs, cost as cost-of};
+ghost use Rattle.clearing.specs.Clearing.{adding, line, best as best_gate, helpers, pivots};
+ghost use Rattle.clearing.specs.Pairs.{pairs, cost as cost_of};
 ghost use Rattle.elimination.specs.Choices.{choose, best_of, gate_of, Fits};
 ghost use Rattle.elimination.specs.Layouts.{Sound, state_of};
 
@@ -34,7 +34,7 @@ impl Pair {
         ensures same { self.new ≡ self.old }
         ensures end { result.end ≡ end }
         ensures from { result.from ≡ from }
-        ensures cost { result.cost ≡ cost-of (pairs.place (adding end from to) (state_of self.old)) }
+        ensures cost { result.cost ≡ cost_of (pairs.place (adding end from to) (state_of self.old)) }
     {
         let cost = self.cost_after(end, from, to);
         Choice { end, from, cost }
@@ -49,7 +49,7 @@ impl Pair {
         ensures same { self.new ≡ self.old }
         ensures inside { result < self.old.lines }
         ensures apart { result ≢ i }
-        ensures value { adding end result i ≡ best-gate pairs (state_of self.old) (adding end d i) (helpers pairs end (state_of self.old) d i (i + 1) (self.old.lines - (i + 1))) }
+        ensures value { adding end result i ≡ best_gate pairs (state_of self.old) (adding end d i) (helpers pairs end (state_of self.old) d i (i + 1) (self.old.lines - (i + 1))) }
     {
         let mut best = self.choice(end, d, i);
         for j in i + 1..self.lines {

@@ -1,6 +1,6 @@
 // Clearing a line, stage by stage.
 ghost use Rattle.std.specs.Prelude.{◌≡◌, ◌+◌, ◌*◌, ◌<◌, ◌≤◌, ◌≢◌, nat_le};
-ghost use Rattle.clearing.specs.Clearing.{adding, put, try, rising, sweep_at, greedy_at, start, pivot, clear as clear-line};
+ghost use Rattle.clearing.specs.Clearing.{adding, put, try, rising, sweep_at, greedy_at, start, pivot, clear as clear_line};
 ghost use Rattle.clearing.specs.Pairs.{pairs};
 ghost use Rattle.elimination.specs.Finds.{work_of};
 ghost use Rattle.elimination.specs.Layouts.{Sound, state_of};
@@ -124,7 +124,7 @@ impl Pair {
         requires inside { d < self.old.lines }
         ensures sound { Sound self.new }
         ensures lines { self.new.lines ≡ self.old.lines }
-        ensures work { work_of self.new result ≡ clear-line pairs self.old.lines d (start pairs (state_of self.old)) }
+        ensures work { work_of self.new result ≡ clear_line pairs self.old.lines d (start pairs (state_of self.old)) }
     {
         let mut gates = Found::new();
         self.greedy(d, &mut gates);

@@ -1,7 +1,7 @@
 // What a pair tells, gates put in for good, and what a gate would cost.
 ghost use Rattle.std.specs.Prelude.{◌≡◌, ◌<◌, ◌≤◌, ◌≢◌};
 ghost use Rattle.clearing.specs.Clearing.{adding, line, solved};
-ghost use Rattle.clearing.specs.Pairs.{pairs, cost as cost-of};
+ghost use Rattle.clearing.specs.Pairs.{pairs, cost as cost_of};
 ghost use Rattle.elimination.specs.Layouts.{Sound, state_of};
 
 use super::Pair;
@@ -10,7 +10,7 @@ use gates::end::End;
 impl Pair {
     pub(crate) fn cost(&self) -> u32
         requires { Sound self.now }
-        ensures value { result ≡ cost-of (state_of self.now) }
+        ensures value { result ≡ cost_of (state_of self.now) }
         ensures small { result ≤ 8192 }
     {
         self.cost
@@ -45,7 +45,7 @@ impl Pair {
         requires to { to < self.old.lines }
         requires apart { from ≢ to }
         ensures same { self.new ≡ self.old }
-        ensures value { result ≡ cost-of (pairs.place (adding end from to) (state_of self.old)) }
+        ensures value { result ≡ cost_of (pairs.place (adding end from to) (state_of self.old)) }
         ensures small { result ≤ 8192 }
     {
         match end {

@@ -6,7 +6,7 @@ ghost use Rattle.clearing.specs.Laws.{room as room_of};
 ghost use Rattle.clearing.specs.Pairs.{pairs};
 ghost use Rattle.elimination.specs.Finds.{all_put};
 ghost use Rattle.elimination.specs.Layouts.{Sound, state_of};
-ghost use Rattle.elimination.specs.Lines.{Small, Tried, steeper as steeper-of, line_of, choose_line, best_line, Remembered};
+ghost use Rattle.elimination.specs.Lines.{Small, Tried, steeper as steeper_of, line_of, choose_line, best_line, Remembered};
 
 use super::Pair;
 use books::Book;
@@ -26,7 +26,7 @@ fn steeper(before: usize, old: Cleared, new: Cleared) -> Cleared
     requires before { before ≤ 8192 }
     requires old { Small old }
     requires new { Small new }
-    ensures { result ≡ steeper-of before old new }
+    ensures { result ≡ steeper_of before old new }
 {
     if before * new.count + new.left * old.count < before * old.count + old.left * new.count {
         new
