@@ -1,12 +1,11 @@
 -- Circuits: gates in the order in which a word passes them.
-use Rattle.std.specs.Prelude.{ℕ, Bool, true, ◌&&◌, List, [], ◌∷◌}
+use Rattle.std.specs.Prelude.{ℕ, Bool, List}
+use Rattle.std.specs.List.{fold, list_all}
 use Rattle.gates.specs.Gates.{Kind}
 
 -- What the gates make of a word on n lines.
 abbrev pub through : {G : Type 0} → Kind G → ℕ → List G → ℕ → ℕ
-through K n [] x = x
-through K n (g ∷ gs) x = through K n gs (K.act n g x)
+through K n gs x = fold (λ w g. K.act n g w) x gs
 
 abbrev pub all_legal : {G : Type 0} → Kind G → ℕ → List G → Bool
-all_legal K n [] = true
-all_legal K n (g ∷ gs) = K.legal n g && all_legal K n gs
+all_legal K n = list_all (K.legal n)

@@ -18,7 +18,7 @@ use Rattle.gates.specs.Circuits.{through}
 use Rattle.gates.specs.Probes.{Tell}
 use Rattle.gates.specs.Cnots.{cnot, cnot_legal, cnot_probes}
 use Rattle.gates.specs.declared.cnot.Cnot.{Cnot}
-use Rattle.gates.specs.CircuitLaws.{through_idle}
+use Rattle.gates.specs.ProbeLaws.{none_needed}
 use Rattle.gates.specs.FlipLaws.{flips_lawful}
 
 -- what legality says
@@ -109,16 +109,10 @@ count_few n h = cond-true (nat_le n 64) n 0 (le-leb n 64 h)
 count_many : (n : ℕ) → 64 < n → cnot_probes.count n ≡ 0
 count_many n h = cond-false (nat_le n 64) n 0 (lt-leb n 64 h)
 
-none_legal : (n : ℕ) → 64 < n → (g : Cnot) → cnot_legal n g ≡ false
-none_legal n h g = grind (arith, nat_tests)
-
 pub cnot_tell : (n : ℕ) → Tell cnot cnot_probes n
 cnot_tell n =
     ⊎_elim
-    (λ many. record {
-      within = λ k h. absurd (omega (arith, count_many n many));
-      enough = λ gs hs agree x h. through_idle cnot n cnot_lawful (none_legal n many) gs x ∙ sym (through_idle cnot n cnot_lawful (none_legal n many) hs x);
-    })
+    (λ many. none_needed cnot cnot_lawful cnot_probes n many (count_many n many))
     (λ few. record {
       within = λ k h.
           let kn : k < n = omega (arith, count_few n few) in

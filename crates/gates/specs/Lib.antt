@@ -10,3 +10,4 @@ pub mod CnotLaws
 pub mod CircuitLaws
 pub mod FlipLaws
 pub mod MctLaws
+pub mod ProbeLaws

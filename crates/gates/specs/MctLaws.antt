@@ -1,6 +1,6 @@
 -- MCT gates keep the law of a gate kind, and all words tell the map of a list of them.
-use Rattle.std.specs.Prelude.{◌≡◌, ℕ, ◌^◌, ◌<◌, ◌≤◌, true, false, bit_and, nat_eq, nat_le}
-use Rattle.std.proofs.Common.{sym, ap, ◌∙◌, ⊎_elim, arith, lit≤}
+use Rattle.std.specs.Prelude.{◌≡◌, ℕ, ◌^◌, ◌<◌, ◌≤◌, true, bit_and, nat_eq, nat_le}
+use Rattle.std.proofs.Common.{ap, ⊎_elim, arith, lit≤}
 use Rattle.std.proofs.lemmas.Bool.{cases_lt, lt-leb, cond-false, cond-true, le-leb}
 use Rattle.std.proofs.lemmas.Bool.Decides.{nat_tests}
 use Rattle.words.specs.Words.{bit}
@@ -9,7 +9,7 @@ use Rattle.gates.specs.Gates.{Lawful}
 use Rattle.gates.specs.Probes.{Tell}
 use Rattle.gates.specs.Mcts.{mct, mct_legal, mct_probes}
 use Rattle.gates.specs.declared.mct.Mct.{Mct}
-use Rattle.gates.specs.CircuitLaws.{through_idle}
+use Rattle.gates.specs.ProbeLaws.{none_needed}
 use Rattle.gates.specs.FlipLaws.{flips_lawful}
 
 -- what legality says
@@ -45,16 +45,10 @@ count_few n h = cond-true (nat_le n 8) (2 ^ n) 0 (le-leb n 8 h)
 count_many : (n : ℕ) → 8 < n → mct_probes.count n ≡ 0
 count_many n h = cond-false (nat_le n 8) (2 ^ n) 0 (lt-leb n 8 h)
 
-none_legal : (n : ℕ) → 8 < n → (g : Mct) → mct_legal n g ≡ false
-none_legal n h g = grind (arith, nat_tests)
-
 pub mct_tell : (n : ℕ) → Tell mct mct_probes n
 mct_tell n =
     ⊎_elim
-    (λ many. record {
-      within = λ k h. absurd (omega (arith, count_many n many));
-      enough = λ gs hs agree x h. through_idle mct n mct_lawful (none_legal n many) gs x ∙ sym (through_idle mct n mct_lawful (none_legal n many) hs x);
-    })
+    (λ many. none_needed mct mct_lawful mct_probes n many (count_many n many))
     (λ few. record {
       within = λ k h. omega (arith, count_few n few);
       enough = λ gs hs agree x h. agree x (omega (arith, count_few n few));

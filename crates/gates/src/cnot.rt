@@ -1,5 +1,6 @@
 // CNOT gates: one control and one target.
 ghost use Rattle.std.specs.Prelude.{◌≡◌, Some};
+ghost use Rattle.std.proofs.Common.{rules};
 ghost use Rattle.gates.specs.Cnots.{cnot, cnot_probes};
 ghost use Rattle.gates.specs.Texts.{cnot_text};
 ghost use Rattle.gates.specs.CnotLaws.{cnot_lawful};
@@ -21,6 +22,8 @@ impl Gate for Cnot {
 
     ghost lawful = { cnot_lawful };
 
+    ghost equal = { Prim.search rules };
+
     fn max_lines() -> u8 {
         64
     }
@@ -35,10 +38,6 @@ impl Gate for Cnot {
         } else {
             word
         }
-    }
-
-    fn equals(self, other: Cnot) -> bool {
-        self.control == other.control && self.target == other.target
     }
 }
 
@@ -59,7 +58,7 @@ impl Probed for Cnot {
 fn unit_count(n: u8) -> u16
     ensures { result ≡ cnot_probes.count n }
 {
-    if n <= 64 { n as u16 } else { 0 }
+    if n <= 64 { u16::from(n) } else { 0 }
 }
 
 // As (control, target).

@@ -1,8 +1,11 @@
 // The interface of a gate kind.
-ghost use Rattle.std.specs.Prelude.{◌≡◌, Decides};
+ghost use Rattle.std.specs.Prelude.{◌≡◌, None, Decides};
 ghost use Rattle.gates.specs.Gates.{Kind, Lawful};
+ghost use Rattle.gates.specs.Refusals.{answer, unless_legal};
 
-pub trait Gate: Copy {
+use crate::refusal::Refusal;
+
+pub trait Gate: Copy + Eq {
     // What gates of this kind mean.
     ghost kind: { Kind Self };
 
@@ -18,9 +21,19 @@ pub trait Gate: Copy {
     fn act(self, n: u8, word: u64) -> u64
         ensures { result ≡ kind.act n self word };
 
-    // Whether two gates have all fields equal.
-    fn equals(self, other: Self) -> bool
-        ensures { Decides result (self ≡ other) };
+    // Declines an illegal gate.
+    final fn check(self, n: u8) -> Result<(), Refusal>
+        ensures { result ≡ answer (unless_legal (kind.legal n self) None) }
+    {
+        if self.is_legal(n) {
+            Ok(())
+        } else {
+            Err(Refusal::IllegalGate)
+        }
+    }
 
     ghost lawful: { Lawful kind };
+
+    // Two gates are equal where all their fields are.
+    ghost equal: { (a b : Self) → Decides (Self.eq a b) (a ≡ b) };
 }

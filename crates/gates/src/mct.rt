@@ -1,7 +1,8 @@
 // MCT gates: a NOT with any number of controls.
 ghost use Rattle.std.specs.Prelude.{◌≡◌, Some};
+ghost use Rattle.std.proofs.Common.{rules};
 ghost use Rattle.gates.specs.Mcts.{mct, mct_probes};
-ghost use Rattle.gates.specs.Texts.{control_text, mct_text};
+ghost use Rattle.gates.specs.Texts.{mct_text};
 ghost use Rattle.gates.specs.MctLaws.{mct_lawful};
 
 use crate::gate::Gate;
@@ -21,26 +22,24 @@ impl Gate for Mct {
 
     ghost lawful = { mct_lawful };
 
+    ghost equal = { Prim.search rules };
+
     fn max_lines() -> u8 {
         8
     }
 
     fn is_legal(self, n: u8) -> bool {
-        let controls = self.controls as u64;
+        let controls = u64::from(self.controls);
         n <= 8 && is_word(n, controls) && self.target < n && !has_bit(controls, self.target)
     }
 
     fn act(self, n: u8, word: u64) -> u64 {
-        let controls = self.controls as u64;
+        let controls = u64::from(self.controls);
         if self.is_legal(n) && is_word(n, word) && word & controls == controls {
             flipped(word, self.target)
         } else {
             word
         }
-    }
-
-    fn equals(self, other: Mct) -> bool {
-        self.controls == other.controls && self.target == other.target
     }
 }
 
@@ -53,7 +52,7 @@ impl Probed for Mct {
     }
 
     fn probe(at: u16) -> u64 {
-        at as u64
+        u64::from(at)
     }
 }
 
@@ -69,28 +68,13 @@ impl fmt::Display for Mct {
     ghost output = { λ g. Some (mct_text g) };
 
     fn fmt<W: fmt::Write>(&self, f: &mut fmt::Formatter<W>) -> fmt::Result {
-        let a = self.control_text(0, "0 ");
-        let b = self.control_text(1, "1 ");
-        let c = self.control_text(2, "2 ");
-        let d = self.control_text(3, "3 ");
-        let e = self.control_text(4, "4 ");
-        let g = self.control_text(5, "5 ");
-        let h = self.control_text(6, "6 ");
-        let i = self.control_text(7, "7 ");
-        let target = self.target;
-        write!(f, "({a}{b}{c}{d}{e}{g}{h}{i}-> {target})")
-    }
-}
-
-impl Mct {
-    // The text of a line, if it is a control.
-    fn control_text(self, line: u8, text: &'static str) -> &'static str
-        ensures { result.now ≡ control_text self line text.now }
-    {
-        if has_bit(self.controls as u64, line) {
-            text
-        } else {
-            ""
+        write!(f, "(")?;
+        for line in 0..8 {
+            if has_bit(u64::from(self.controls), line) {
+                write!(f, "{line} ")?;
+            }
         }
+        let target = self.target;
+        write!(f, "-> {target})")
     }
 }
