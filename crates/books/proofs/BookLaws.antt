@@ -1,16 +1,15 @@
--- A book: how many gates it holds, and what a write, a read or another count makes of its ends.
-use Rattle.std.proofs.Common.{◌≡◌, ℕ, ◌+◌, ◌-◌, ◌<◌, ◌≤◌, min, cond, ltb, List, [], length, get_or, set, Some, None, Option, sym, refl, ap, ◌∙◌, ap₂, arith}
+-- A book: how many gates it holds, and what one gate more or fewer makes of its ends.
+use Rattle.std.proofs.Common.{◌≡◌, ℕ, ◌+◌, ◌-◌, ◌<◌, ◌≤◌, min, List, length, set, Some, sym, refl, ap, ◌∙◌, subst, ap₂, arith}
 use lib.Seq.{take-set-lt}
-use Rattle.std.specs.List.{slice_get}
-use Rattle.std.proofs.lemmas.List.{length-take, get_or-take, nil_from_length}
-use Rattle.std.proofs.lemmas.Bool.{ltb-true, ltb-false, cond_both}
+use Rattle.std.proofs.lemmas.List.{length-take}
 use Rattle.gates.specs.declared.end.End.{End}
 use Rattle.gates.specs.declared.end.End.TheVariants.{Input, Output}
-use Rattle.books.specs.Ends.{empty, found, circuit, put, strike, last}
+use Rattle.books.specs.Ends.{empty, found, put, strike, last}
 use Rattle.books.specs.Books.{counted, laid, ends, places, free}
-use Rattle.books.specs.Places.{tally, counts, more, fewer, Room, place, last_place, place_of, written, Pushed}
+use Rattle.books.specs.Places.{tally, counts, more, fewer, Room, place, written, Pushed}
 use Rattle.books.specs.declared.Book.{Book}
-use Rattle.books.proofs.LaidLaws.{laid_none, laid_put_in, laid_put_out, ins_length, outs_length, held_laid, circuit_length, last_in, last_out, strike_in, strike_out, nth_in, nth_out, nth_none}
+use Rattle.books.proofs.EndLaws.{last_within}
+use Rattle.books.proofs.LaidLaws.{laid_none, laid_put_in, laid_put_out, ins_length, outs_length, held_laid, strike_in, strike_out}
 
 module _ {G : Type 0} where
   counted_length : (xs : List G) → length (counted xs) ≡ min 16384 (length xs)
@@ -33,58 +32,21 @@ module _ {G : Type 0} where
     tally_length Input = ins_length (counted b.places.now) b.inputs b.outputs fits_counted
     tally_length Output = outs_length (counted b.places.now) b.inputs b.outputs fits_counted
 
-    pub tally_fits : (e : End) → tally e b ≤ 16384
-    tally_fits Input = omega (arith, b.fits)
-    tally_fits Output = omega (arith, b.fits)
+    pub ins_count : (e : End) → e ≡ Input → length (found e (ends b)) ≡ b.inputs
+    ins_count e is = ap (λ e. length (found e (ends b))) is ∙ tally_length Input
 
-    pub found_none : (e : End) → tally e b ≡ 0 → found e (ends b) ≡ []
-    found_none e none = nil_from_length (found e (ends b)) (tally_length e ∙ none)
+    pub outs_count : (e : End) → e ≡ Output → length (found e (ends b)) ≡ b.outputs
+    outs_count e is = ap (λ e. length (found e (ends b))) is ∙ tally_length Output
+
+    -- an end that has a last gate counts one
+    pub tally_last : (e : End) (g : G) → last (found e (ends b)) ≡ Some g → 0 < tally e b
+    tally_last e g is = subst (λ n. 0 < n) (tally_length e) (last_within (found e (ends b)) g is)
 
     pub free_is : free b ≡ places b - (b.inputs + b.outputs)
     free_is = ap (λ n. places b - n) (held_laid (counted b.places.now) b.inputs b.outputs fits_counted)
 
-    pub room : (n : ℕ) → n ≡ free b → 1 ≤ n → Room b
-    room n is h = omega (arith, free_is)
-
-    pub circuit_fits : length (circuit (ends b)) ≤ 16384
-    circuit_fits = omega (arith, circuit_length (counted b.places.now) b.inputs b.outputs fits_counted, counted_length b.places.now, fits_counted)
-
-    -- ---- the gate at a position
-
-    -- a gate read at a place
-    read_at : (g : G) (at n : ℕ) → n < 16384 → at ≡ n → g ≡ get_or b.places.now at g → Some g ≡ Some (get_or (counted b.places.now) n g)
-    read_at g at n h here is = ap Some (is ∙ ap (λ m. get_or b.places.now m g) here ∙ sym (get_or-take 16384 b.places.now n g h))
-
-    module _ (k : ℕ) where
-      place_cases : (P : Option ℕ → Type 0) → (k < b.inputs → P (Some k)) →
-          (b.inputs ≤ k → k - b.inputs < b.outputs → P (Some (places b - b.outputs + (k - b.inputs)))) → (b.inputs + b.outputs ≤ k → P None) → P (place_of k b)
-      place_cases P in-part out-part past =
-          let o = b.outputs in
-          let after = k - b.inputs in
-          cond_both (ltb k b.inputs) (Some k) (cond (ltb after o) (Some (places b - o + after)) None) P
-          (λ e. in-part (ltb-true k b.inputs e))
-          (λ e. cond_both (ltb after o) (Some (places b - o + after)) None P
-          (λ l. out-part (ltb-false k b.inputs e) (ltb-true after o l))
-          (λ l. past (omega (arith, ltb-false k b.inputs e, ltb-false after o l))))
-
-      pub gate_some : (at : ℕ) (g : G) → place_of k b ≡ Some at → g ≡ get_or b.places.now at g → Some g ≡ slice_get (circuit (ends b)) k
-      gate_some at g e is =
-          let xs = counted b.places.now in
-          let i = b.inputs in
-          let o = b.outputs in
-          let P : Option ℕ → Type 0 = λ p. p ≡ Some at → Some g ≡ slice_get (circuit (ends b)) k in
-          place_cases P
-          (λ h p. read_at g at k (omega (arith, b.fits)) (cc) is ∙ sym (nth_in xs i o fits_counted k g h))
-          (λ h l p.
-          let here : at ≡ places b - o + (k - i) = cc in
-          let n : at ≡ length xs - o + (k - i) = omega (arith, counted_length b.places.now) in
-          read_at g at (length xs - o + (k - i)) (omega (arith, b.fits)) n is ∙ sym (nth_out xs i o fits_counted k g h l))
-          (λ h p. cc) e
-
-      pub gate_none : place_of k b ≡ None → None ≡ slice_get (circuit (ends b)) k
-      gate_none e =
-          let P : Option ℕ → Type 0 = λ p. p ≡ None → None ≡ slice_get (circuit (ends b)) k in
-          place_cases P (λ h p. cc) (λ h l p. cc) (λ h p. sym (nth_none (counted b.places.now) b.inputs b.outputs fits_counted k h)) e
+    pub room : 1 ≤ free b → Room b
+    room h = omega (arith, free_is)
 
     -- ---- one gate more at an end
 
@@ -108,19 +70,11 @@ module _ {G : Type 0} where
       places = wrote;
     }
 
-    -- ---- the gate found last at an end
+    -- ---- one gate fewer at an end
 
-    pub last_read : (e : End) (g : G) (at : ℕ) → 0 < tally e b → at ≡ last_place e b → g ≡ get_or b.places.now at g → Some g ≡ last (found e (ends b))
-    last_read Input g at h here is =
-        read_at g at (b.inputs - 1) (omega (arith, b.fits)) here is ∙ sym (last_in (counted b.places.now) b.inputs b.outputs fits_counted g h)
-    last_read Output g at h here is =
-        let xs = counted b.places.now in
-        let n : at ≡ length xs - b.outputs = omega (arith, counted_length b.places.now) in
-        read_at g at (length xs - b.outputs) (omega (arith, b.fits)) n is ∙ sym (last_out xs b.inputs b.outputs fits_counted g h)
+    strike_laid : (e : End) (g : G) → last (found e (ends b)) ≡ Some g → laid (counted b.places.now) (fewer e (counts b)).0 (fewer e (counts b)).1 ≡ strike e (ends b)
+    strike_laid Input g is = strike_in (counted b.places.now) b.inputs b.outputs fits_counted g (tally_last Input g is)
+    strike_laid Output g is = strike_out (counted b.places.now) b.inputs b.outputs fits_counted g (tally_last Output g is)
 
-    strike_laid : (e : End) (d : G) → 0 < tally e b → laid (counted b.places.now) (fewer e (counts b)).0 (fewer e (counts b)).1 ≡ strike e (ends b)
-    strike_laid Input d h = strike_in (counted b.places.now) b.inputs b.outputs fits_counted d h
-    strike_laid Output d h = strike_out (counted b.places.now) b.inputs b.outputs fits_counted d h
-
-    pub struck : (e : End) (d : G) (b' : Book G) → 0 < tally e b → b'.places ≡ b.places → counts b' ≡ fewer e (counts b) → ends b' ≡ strike e (ends b)
-    struck e d b' h same shrank = ends_at b' b.places.now (fewer e (counts b)) (ap (λ r. r.now) same) shrank ∙ strike_laid e d h
+    pub struck : (e : End) (g : G) (b' : Book G) → last (found e (ends b)) ≡ Some g → b'.places ≡ b.places → counts b' ≡ fewer e (counts b) → ends b' ≡ strike e (ends b)
+    struck e g b' is same shrank = ends_at b' b.places.now (fewer e (counts b)) (ap (λ r. r.now) same) shrank ∙ strike_laid e g is

@@ -1,18 +1,15 @@
 -- Which gates at the two ends are legal.
-use Rattle.std.proofs.Common.{◌≡◌, ℕ, zero, suc, ◌+◌, true, false, ◌&&◌, List, [], ◌∷◌, reverse, take, Some, None, sym, refl, ap, ◌∙◌}
+use Rattle.std.proofs.Common.{◌≡◌, ℕ, true, ◌&&◌, List, [], ◌∷◌, reverse, Some, sym, refl, ap, ◌∙◌}
 use mathlib.Core.List.{reverse-cons}
 use mathlib.Core.Bool.{and_comm}
-use Rattle.std.specs.List.{slice_get}
-use Rattle.std.proofs.lemmas.List.{take_all}
 use Rattle.std.proofs.lemmas.Bool.{and_parts, and_from}
 use Rattle.gates.specs.declared.end.End.{End}
 use Rattle.gates.specs.declared.end.End.TheVariants.{Input, Output}
 use Rattle.gates.specs.Gates.{Kind}
 use Rattle.gates.specs.Circuits.{all_legal}
-use Rattle.gates.specs.CircuitLaws.{legal_append, legal_push}
-use Rattle.books.specs.Ends.{Ends, found, circuit, put, strike, last, front, sound}
+use Rattle.gates.specs.CircuitLaws.{legal_push}
+use Rattle.books.specs.Ends.{Ends, found, put, strike, last, front, sound}
 use Rattle.books.proofs.EndLaws.{last_split}
-use Rattle.books.proofs.Positions.{nth_end, take_nth}
 
 module _ {G : Type 0} (K : Kind G) (n : ℕ) where
   pub legal_reverse : (xs : List G) → all_legal K n (reverse xs) ≡ all_legal K n xs
@@ -20,24 +17,6 @@ module _ {G : Type 0} (K : Kind G) (n : ℕ) where
   legal_reverse (x ∷ xs) =
       ap (all_legal K n) (reverse-cons x xs) ∙ legal_push K n (reverse xs) x
       ∙ ap (λ b. b && K.legal n x) (legal_reverse xs) ∙ and_comm (all_legal K n xs) (K.legal n x)
-
-  -- ---- a circuit that is gone through by position
-
-  pub legal_nth : (xs : List G) (k : ℕ) (g : G) → slice_get xs k ≡ Some g → all_legal K n (take k xs) ≡ true → K.legal n g ≡ true → all_legal K n (take (k + 1) xs) ≡ true
-  legal_nth xs k g is before here = ap (all_legal K n) (take_nth xs k g is) ∙ legal_push K n (take k xs) g ∙ and_from _ _ before here
-
-  pub illegal_nth : (xs : List G) (k : ℕ) (g : G) → slice_get xs k ≡ Some g → K.legal n g ≡ false → all_legal K n xs ≡ false
-  illegal_nth [] k g is not = cc
-  illegal_nth (x ∷ xs) zero g is not = let q : x ≡ g = cc in ap (λ y. K.legal n y && all_legal K n xs) q ∙ ap (λ b. b && all_legal K n xs) not
-  illegal_nth (x ∷ xs) (suc k) g is not = ap (λ b. K.legal n x && b) (illegal_nth xs k g is not) ∙ and_comm (K.legal n x) false
-
-  pub legal_to_end : (xs : List G) (k : ℕ) → slice_get xs k ≡ None → all_legal K n (take k xs) ≡ true → all_legal K n xs ≡ true
-  legal_to_end xs k end all = ap (all_legal K n) (sym (take_all k xs (nth_end xs k end))) ∙ all
-
-  -- ---- the two ends
-
-  pub legal_circuit : (es : Ends G) → all_legal K n (circuit es) ≡ sound K n es
-  legal_circuit es = legal_append K n es.ins (reverse es.outs) ∙ ap (λ b. all_legal K n es.ins && b) (legal_reverse es.outs)
 
   -- the last of a list of legal gates is legal, and so are the others
   legal_split : (xs : List G) (g : G) → last xs ≡ Some g → all_legal K n xs ≡ true → (all_legal K n (front xs) ≡ true) × (K.legal n g ≡ true)

@@ -1,5 +1,5 @@
 -- At which place each gate of a book stands, and what is written.
-use Rattle.std.specs.Prelude.{◌≡◌, ℕ, ◌+◌, ◌-◌, ◌<◌, cond, List, Some, None, Option, nat_lt, slice_set}
+use Rattle.std.specs.Prelude.{◌≡◌, ℕ, ◌+◌, ◌-◌, ◌<◌, List, slice_set}
 use denote.Ref.{MutBor, at_last}
 use Rattle.gates.specs.declared.end.End.{End}
 use Rattle.gates.specs.declared.end.End.TheVariants.{Input, Output}
@@ -33,15 +33,6 @@ module _ {G : Type 0} where
   abbrev pub place : End → Book G → ℕ
   place Input b = b.inputs
   place Output b = places b - b.outputs - 1
-
-  -- The place of the gate that was found last at an end.
-  abbrev pub last_place : End → Book G → ℕ
-  last_place Input b = b.inputs - 1
-  last_place Output b = places b - b.outputs
-
-  -- The place of the gate at a position in circuit order.
-  abbrev pub place_of : ℕ → Book G → Option ℕ
-  place_of k b = cond (nat_lt k b.inputs) (Some k) (cond (nat_lt (k - b.inputs) b.outputs) (Some (places b - b.outputs + (k - b.inputs))) None)
 
   -- The memory with a gate written at a place.
   abbrev pub written : ℕ → G → MutBor (List G) → MutBor (List G)

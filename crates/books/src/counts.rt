@@ -1,4 +1,5 @@
-// The counts of a book's gates, and how they change.
+// The counts of a book's gates, and how they change. A field for each end reads plainer than an array of two. What each call leaves
+// as it was is said by each.
 ghost use Rattle.std.specs.Prelude.{◌≡◌, ◌<◌};
 ghost use Rattle.books.specs.Places.{tally, Room, counts, more, fewer};
 
@@ -6,28 +7,6 @@ use crate::Book;
 use gates::end::End;
 
 impl<'a, G: Copy> Book<'a, G> {
-    // A book over this memory that counts no gate.
-    pub(crate) fn over(memory: &'a mut [G]) -> Self
-        ensures places { result.places ≡ memory.entry }
-        ensures counts { counts result ≡ (0, 0) }
-    {
-        Book {
-            places: memory,
-            inputs: 0,
-            outputs: 0,
-        }
-    }
-
-    // How many gates the book counts at an end.
-    pub(crate) fn tally(&self, end: End) -> usize
-        ensures { result ≡ tally end self.now }
-    {
-        match end {
-            End::Input => self.inputs,
-            End::Output => self.outputs,
-        }
-    }
-
     // Counts one gate more at an end.
     pub(crate) fn grow(&mut self, end: End)
         requires { Room self.old }
@@ -50,14 +29,5 @@ impl<'a, G: Copy> Book<'a, G> {
             End::Input => self.inputs -= 1,
             End::Output => self.outputs -= 1,
         }
-    }
-
-    // Counts no gate at either end.
-    pub(crate) fn reset(&mut self)
-        ensures places { self.new.places ≡ self.old.places }
-        ensures counts { counts self.new ≡ (0, 0) }
-    {
-        self.inputs = 0;
-        self.outputs = 0;
     }
 }

@@ -28,6 +28,7 @@ fn cnot(control: u8, target: u8) -> Cnot
 }
 
 // Puts a gate, for which a place is free, at an end.
+#[tactic(auto, using(crate::proofs::PushLaws::accepted, crate::proofs::PushLaws::pushed_free))]
 fn find<G: Copy>(book: &mut Book<G>, end: End, gate: G)
     requires { 1 ≤ free book.old }
     ensures ends { ends book.new ≡ put end gate (ends book.old) }

@@ -1,7 +1,8 @@
-// At which place each gate of a book stands.
-ghost use Rattle.std.specs.Prelude.{◌≡◌, ◌<◌, length, slice_index_or};
-ghost use Rattle.books.specs.Books.{places};
-ghost use Rattle.books.specs.Places.{tally, Room, place, last_place, place_of, counts, written};
+// Where in the places the gates of a book stand.
+ghost use Rattle.std.specs.Prelude.{◌≡◌, ◌<◌, reverse};
+ghost use Rattle.books.specs.Ends.{found, last};
+ghost use Rattle.books.specs.Books.{counted, places, ends};
+ghost use Rattle.books.specs.Places.{Room, place};
 
 use crate::Book;
 use gates::end::End;
@@ -19,55 +20,26 @@ impl<'a, G: Copy> Book<'a, G> {
         }
     }
 
-    // The place of the gate that was found last at an end.
-    pub(crate) fn last_place(&self, end: End) -> usize
-        requires { 0 < tally end self.now }
-        ensures is { result ≡ last_place end self.now }
-        ensures within { result < places self.now }
+    // The gates in circuit order, in two slices: the input gates, and the output gates with the last found first.
+    #[tactic(auto, using(std::proofs::lemmas::List::take_min, crate::proofs::LaidLaws::back_slice))]
+    pub fn as_slices(&self) -> (&[G], &[G])
+        ensures front { result.0.now ≡ (ends self.now).ins }
+        ensures back { result.1.now ≡ reverse (ends self.now).outs }
     {
+        let places = &self.places[..self.places()];
+        let back = places.len() - self.outputs;
+        (&places[..self.inputs], &places[back..])
+    }
+
+    // The gate that was found last at an end.
+    #[tactic(auto, using(crate::proofs::EndLaws::last_get, crate::proofs::EndLaws::first_reversed))]
+    pub(crate) fn last(&self, end: End) -> Option<G>
+        ensures { result ≡ last (found end (ends self.now)) }
+    {
+        let (inputs, outputs) = self.as_slices();
         match end {
-            End::Input => self.inputs - 1,
-            End::Output => self.places() - self.outputs,
+            End::Input => inputs.last().copied(),
+            End::Output => outputs.first().copied(),
         }
     }
-
-    // The place of the gate at a position in circuit order, or none past the end.
-    pub(crate) fn place_of(&self, position: usize) -> Option<usize>
-        ensures { result ≡ place_of position self.now }
-    {
-        if position < self.inputs {
-            return Some(position);
-        }
-        let after = position - self.inputs;
-        if after < self.outputs {
-            let first = self.places() - self.outputs;
-            return Some(first + after);
-        }
-        None
-    }
-
-    // The gate at a place.
-    pub(crate) fn read(&self, at: usize) -> G
-        requires { at < places self.now }
-        ensures { result ≡ slice_index_or self.now.places.now at result }
-    {
-        copied(self.places, at)
-    }
-
-    // Writes a gate at a place.
-    pub(crate) fn write(&mut self, at: usize, gate: G)
-        requires { at < places self.old }
-        ensures places { self.new.places ≡ written at gate self.old.places }
-        ensures counts { counts self.new ≡ counts self.old }
-    {
-        self.places[at] = gate;
-    }
-}
-
-// A copy of one gate in memory.
-fn copied<G: Copy>(memory: &[G], at: usize) -> G
-    requires { at < length memory.now }
-    ensures { result ≡ slice_index_or memory.now at result }
-{
-    memory[at]
 }

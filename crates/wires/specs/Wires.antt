@@ -1,5 +1,5 @@
 -- A piece of one line, by the images of its two words.
-use Rattle.std.specs.Prelude.{◌≡◌, ℕ, ◌-◌, ◌*◌, ◌^◌, cond, [], ◌∷◌, Some, None, Ok, Err, Option, Result, ◌==◌}
+use Rattle.std.specs.Prelude.{◌≡◌, ℕ, ◌-◌, ◌*◌, ◌^◌, cond, [], ◌∷◌, Some, None, Ok, Err, Option, Result, ◌==◌, slice_index}
 use Rattle.gates.specs.declared.end.End.TheVariants.{Output}
 use Rattle.gates.specs.declared.mct.Mct.{Mct}
 use Rattle.gates.specs.declared.refusal.Refusal.{Refusal}
@@ -10,7 +10,7 @@ use Rattle.wires.specs.declared.wire.Wire.{Wire}
 
 -- One line, and the image of each of its words.
 abbrev pub wire_meaning : Wire → Meaning
-wire_meaning w = record { lines = 1; map = λ x. cond (x == 0) w.zero w.one }
+wire_meaning w = record { lines = 1; map = slice_index w.images }
 
 -- Why a piece is not made of these images of 0 and 1: the first that is no word on one line.
 abbrev pub unfit : (a b : ℕ) → Option Refusal
@@ -18,7 +18,7 @@ unfit a b = unless_wide (first_wide 1 0 (a ∷ b ∷ []))
 
 -- A piece made of two images has them, or is declined for the first that is too large.
 abbrev pub Made : (a b : ℕ) → Result Wire Refusal → Type 0
-Made a b (Ok w) = (unfit a b ≡ None) × (w.zero ≡ a) × (w.one ≡ b)
+Made a b (Ok w) = (unfit a b ≡ None) × (w.images ≡ a ∷ b ∷ [])
 Made a b (Err why) = unfit a b ≡ Some why
 
 -- A NOT gate on the one line.

@@ -3,18 +3,17 @@ ghost use Rattle.wires.specs.Wires.{Made};
 
 use crate::wire::Wire;
 use gates::refusal::Refusal;
+use pieces::row::first_wide;
 
 impl Wire {
     // The piece with these images of 0 and 1.
     pub fn new(zero: u64, one: u64) -> Result<Wire, Refusal>
         ensures { Made zero one result }
     {
-        if zero >= 2 {
-            return Err(Refusal::WideRow { row: 0 });
+        let images = [zero, one];
+        match first_wide(1, &images) {
+            Some(row) => Err(Refusal::WideRow { row }),
+            None => Ok(Wire { images }),
         }
-        if one >= 2 {
-            return Err(Refusal::WideRow { row: 1 });
-        }
-        Ok(Wire { zero, one })
     }
 }

@@ -1,5 +1,5 @@
 // The piece of one line takes gates of any kind, and has a run on MCT gates.
-ghost use Rattle.std.specs.Prelude.{◌≡◌, ◌≤◌, OnOk, ◌≢◌};
+ghost use Rattle.std.specs.Prelude.{◌≡◌, ◌≤◌, OnOk, ◌≢◌, slice_index};
 ghost use Rattle.gates.specs.Mcts.{mct};
 ghost use Rattle.books.specs.Books.{free, Kept};
 ghost use Rattle.pieces.specs.Runs.{RunTells, Ran};
@@ -10,7 +10,7 @@ use books::Book;
 use gates::end::End;
 use gates::gate::Gate;
 use gates::mct::Mct;
-use gates::refusal::Refusal;
+use gates::refusal::{Refusal, enough_places};
 use pieces::piece::Piece;
 use pieces::synthesis::Synthesis;
 
@@ -22,50 +22,31 @@ impl<G: Gate> Piece<G> for Wire {
     }
 
     fn image(&self, word: u64) -> Result<u64, Refusal> {
-        match word {
-            0 => Ok(self.zero),
-            1 => Ok(self.one),
-            _ => Err(Refusal::WideWord),
-        }
+        self.images
+            .get(word as usize)
+            .copied()
+            .ok_or(Refusal::WideWord)
     }
 
     fn is_identity(&self) -> bool {
-        self.zero == 0 && self.one == 1
+        self.images == [0, 1]
     }
 
     fn clash(&self) -> Option<(u64, u64)> {
-        if self.zero == self.one {
-            Some((0, 1))
-        } else {
-            None
-        }
+        let [zero, one] = self.images;
+        (zero == one).then_some((0, 1))
     }
 
     fn input(&mut self, gate: G) -> Result<(), Refusal> {
-        if !gate.is_legal(1) {
-            return Err(Refusal::IllegalGate);
-        }
-        let zero = if gate.act(1, 0) == 0 {
-            self.zero
-        } else {
-            self.one
-        };
-        let one = if gate.act(1, 1) == 0 {
-            self.zero
-        } else {
-            self.one
-        };
-        *self = Wire { zero, one };
+        gate.check(1)?;
+        let [zero, one] = [0, 1].map(|word| gate.act(1, word) as usize);
+        self.images = [self.images[zero], self.images[one]];
         Ok(())
     }
 
     fn output(&mut self, gate: G) -> Result<(), Refusal> {
-        if !gate.is_legal(1) {
-            return Err(Refusal::IllegalGate);
-        }
-        let zero = gate.act(1, self.zero);
-        let one = gate.act(1, self.one);
-        *self = Wire { zero, one };
+        gate.check(1)?;
+        self.images = self.images.map(|image| gate.act(1, image));
         Ok(())
     }
 }
@@ -84,29 +65,25 @@ impl Wire {
     // Whether a run is accepted: the images differ, and a place is free.
     fn can_run(&self, book: &Book<Mct>) -> Result<(), Refusal>
         ensures answer { RunTells wire_plan (wire_meaning self.now) book.now result }
-        ensures ready { OnOk result ((self.now.zero ≢ self.now.one) × (1 ≤ free book.now)) }
+        ensures ready { OnOk result ((slice_index self.now.images 0 ≢ slice_index self.now.images 1) × (1 ≤ free book.now)) }
     {
-        if self.zero == self.one {
-            return Err(Refusal::SharedImage { a: 0, b: 1 });
+        if let Some((a, b)) = Piece::<Mct>::clash(self) {
+            return Err(Refusal::SharedImage { a, b });
         }
-        let free = book.free();
-        if free < 1 {
-            return Err(Refusal::TooFewPlaces { needed: 1, free });
-        }
-        Ok(())
+        enough_places(1, book.free())
     }
 
     // Brings the map to identity, with a NOT gate at the output where 0 and 1 are exchanged.
     fn settle(&mut self, book: &mut Book<Mct>)
-        requires apart { self.old.zero ≢ self.old.one }
+        requires apart { slice_index self.old.images 0 ≢ slice_index self.old.images 1 }
         requires room { 1 ≤ free book.old }
         ensures after { Ran mct wire_plan (wire_meaning self.old) book.old (wire_meaning self.new) book.new }
         ensures kept { Kept book.old book.new }
     {
-        if self.zero == 0 {
+        if self.images[0] == 0 {
             return;
         }
-        *self = Wire { zero: 0, one: 1 };
+        self.images = [0, 1];
         let invert = Mct {
             controls: 0,
             target: 0,

@@ -1,10 +1,8 @@
 // The images of the two words on one line.
-ghost use Rattle.std.specs.Prelude.{◌<◌};
+ghost use Rattle.std.specs.Prelude.{ℕ, ◌<◌, slice_index};
 
 #[derive(Clone, Copy)]
 pub struct Wire {
-    pub zero: u64,
-    pub one: u64,
-    ghost zero_fits: { zero < 2 },
-    ghost one_fits: { one < 2 },
+    pub images: [u64; 2],
+    ghost fits: { (x : ℕ) → slice_index images x < 2 },
 }
