@@ -1,122 +1,143 @@
 -- The first clash of a linear map, found line by line.
-use Rattle.std.proofs.Common.{◌≡◌, ℕ, suc, ◌+◌, ◌%◌, ◌^◌, ◌<◌, cond, eqb, List, length, get_or, set, Some, sym, refl, ap, ◌∙◌, subst, ap₂, pow-suc, add-one, arith, get_or-set_other, get_or-set_same, below_more}
+use Rattle.std.proofs.Common.{◌≡◌, ℕ, suc, ◌+◌, ◌*◌, ◌/◌, ◌%◌, ◌^◌, ◌<◌, ◌≤◌, cond, eqb, List, [], ◌∷◌, ◌++◌, length, get_or, Some, sym, refl, ap, ◌∙◌, subst, ap₂, pow-suc, add-one, arith}
+use native.Mathlib.Nat.{div-eq_of_lt-le}
 use lib.Bits.{bit_xor, xor_lt, xor_self}
 use lib.Pow.{pow-lt}
+use Rattle.std.specs.List.{All}
+use Rattle.std.proofs.lemmas.List.{get_or_default, length_push}
+use Rattle.std.proofs.lemmas.List.Elements.{at_read, All-push, All-pop, AllWithin-none, AllWithin-more}
+use Rattle.std.proofs.lemmas.List.Quantifiers.{all_pairs_push}
 use Rattle.words.specs.Words.{bit, has}
 use Rattle.words.specs.Maps.{Apart, Clash}
 use Rattle.words.proofs.Bits.{bit_lt, bit_of_xor, bit_none, bit_above, bit_power}
 use Rattle.words.proofs.Parities.{digit_case}
 use Rattle.words.proofs.Tops.{drop_top, without_top, equal_by_sum}
 use Rattle.matrices.specs.Columns.{Kept, Reduced}
+use Rattle.matrices.specs.declared.matrix.clash.Held.{Held}
+use Rattle.matrices.specs.declared.matrix.clash.Imaged.{Imaged}
+
+abbrev Lacks : ℕ → Held → Type 0
+Lacks image h = bit image h.pivot ≡ 0
+
+-- the highest bit of a word
+pub top_one : (x t : ℕ) → 2 ^ t ≤ x → x < 2 * 2 ^ t → bit x t ≡ 1
+top_one x t low high = let one : x / 2 ^ t ≡ 1 = div-eq_of_lt-le (2 ^ t) (omega arith) (omega arith) in ap (λ (z : ℕ). z % 2) one
 
 module _ (f : ℕ → ℕ) (sums : (x y : ℕ) → f (bit_xor x y) ≡ bit_xor (f x) (f y)) where
-  pub kept_none : (words images pivots : List ℕ) → Kept f 0 words images pivots
-  kept_none words images pivots = record {
-    word = λ j l. absurd (omega arith);
-    image = λ j l. absurd (omega arith);
-    pivot = λ j l. absurd (omega arith);
-    later = λ i j p l. absurd (omega arith);
+  pub kept_none : Kept f []
+  kept_none = record {
+    word = λ j d l. absurd (omega arith);
+    image = λ j d l. absurd (omega arith);
+    pivot = λ j d l. absurd (omega arith);
+    later = λ i j d p l. absurd (omega arith);
     alone = λ y l h. omega arith;
   }
 
-  module _ (t : ℕ) (words images pivots : List ℕ) (kept : Kept f t words images pivots) where
+  module _ (basis : List Held) (kept : Kept f basis) where
     -- words with one image have a sum without any pivot in its image
-    pub kept_apart : Apart (2 ^ t) f
+    pub kept_apart : Apart (2 ^ length basis) f
     kept_apart u v lt lv e =
         let y = bit_xor u v in
         let none : f y ≡ 0 = sums u v ∙ ap (λ (z : ℕ). bit_xor z (f v)) e ∙ xor_self (f v) in
-        let gone : y ≡ 0 = kept.alone y (xor_lt t u v (omega arith) lv) (λ j l. ap (λ (w : ℕ). bit w (get_or pivots j 0)) none ∙ bit_none (get_or pivots j 0)) in
+        let gone : y ≡ 0 = kept.alone y (xor_lt (length basis) u v (omega arith) lv) (λ j d l. ap (λ (w : ℕ). bit w (get_or basis j d).pivot) none ∙ bit_none (get_or basis j d).pivot) in
         let same : u ≡ v = equal_by_sum u v gone in
         omega arith
 
     -- ---- taking the pivots out of the image of a word, one by one
 
-    pub reduce_none : (k : ℕ) → k ≡ 2 ^ t → Reduced f t pivots 0 k (f k)
+    pub reduce_none : (k : ℕ) → k ≡ 2 ^ length basis → Reduced f basis 0 (record { word = k; image = f k })
     reduce_none k e =
-        subst (λ (w : ℕ). Reduced f t pivots 0 w (f w)) (sym e)
-        (record { top = bit_power t; below = pow-lt (omega arith); is = refl; lacks = λ j l. absurd (omega arith) })
+        subst (λ (w : ℕ). Reduced f basis 0 (record { word = w; image = f w })) (sym e)
+        (record { top = bit_power (length basis); below = pow-lt (omega arith); is = refl; lacks = AllWithin-none (Lacks (f (2 ^ length basis))) basis 0 })
 
-    module _ (i k v : ℕ) (within : i < t) (so_far : Reduced f t pivots i k v) where
-      reduce_skip : bit v (get_or pivots i 0) ≡ 0 → Reduced f t pivots (i + 1) k v
+    module _ (i : ℕ) (found : Imaged) (h : Held) (within : i < length basis) (here : h ≡ get_or basis i h) (so_far : Reduced f basis i found) where
+      held : (P : Held → Type 0) → All P basis → P h
+      held P all = subst P (sym here) (all i h within)
+
+      reduce_skip : bit found.image h.pivot ≡ 0 → Reduced f basis (i + 1) found
       reduce_skip e = record {
         top = so_far.top;
         below = so_far.below;
         is = so_far.is;
-        lacks = below_more (λ j. bit v (get_or pivots j 0) ≡ 0) i so_far.lacks e;
+        lacks = AllWithin-more (Lacks found.image) basis 0 i so_far.lacks (at_read basis (Lacks found.image) i h within here e);
       }
 
-      reduce_add : bit v (get_or pivots i 0) ≡ 1 → Reduced f t pivots (i + 1) (bit_xor k (get_or words i 0)) (bit_xor v (get_or images i 0))
+      reduce_add : bit found.image h.pivot ≡ 1 → Reduced f basis (i + 1) (record { word = bit_xor found.word h.word; image = bit_xor found.image h.image })
       reduce_add e =
-          let w = get_or words i 0 in
-          let m = get_or images i 0 in
-          let lw : w < 2 ^ suc t = omega (arith, kept.word i within, pow-suc 2 t) in
+          let t = length basis in
+          let v = bit_xor found.image h.image in
+          let low = held (λ (g : Held). g.word < 2 ^ t) kept.word in
           record {
-            top = bit_of_xor k w t ∙ ap₂ (λ (x y : ℕ). (x + y) % 2) so_far.top (bit_above t w t (kept.word i within) (omega arith));
-            below = xor_lt (suc t) k w so_far.below lw;
-            is = ap₂ bit_xor so_far.is (kept.image i within) ∙ sym (sums k w);
-            lacks = below_more (λ j. bit (bit_xor v m) (get_or pivots j 0) ≡ 0) i
-                (λ j lj. bit_of_xor v m (get_or pivots j 0) ∙ ap₂ (λ (x y : ℕ). (x + y) % 2) (so_far.lacks j lj) (kept.later j i lj within))
-                (bit_of_xor v m (get_or pivots i 0) ∙ ap₂ (λ (x y : ℕ). (x + y) % 2) e (kept.pivot i within));
+            top = bit_of_xor found.word h.word t ∙ ap₂ (λ (x y : ℕ). (x + y) % 2) so_far.top (bit_above t h.word t low (omega arith));
+            below = xor_lt (suc t) found.word h.word so_far.below (omega (arith, low, pow-suc 2 t));
+            is = ap₂ bit_xor so_far.is (held (λ (g : Held). g.image ≡ f g.word) kept.image) ∙ sym (sums found.word h.word);
+            lacks = AllWithin-more (Lacks v) basis 0 i
+                (λ j d z lj.
+                let p = (get_or basis j d).pivot in
+                let same = here ∙ get_or_default basis i h d within in
+                bit_of_xor found.image h.image p
+                ∙ ap₂ (λ (x y : ℕ). (x + y) % 2) (so_far.lacks j d z lj) (ap (λ (g : Held). bit g.image p) same ∙ kept.later j i d lj within))
+                (at_read basis (Lacks v) i h within here
+                (bit_of_xor found.image h.image h.pivot ∙ ap₂ (λ (x y : ℕ). (x + y) % 2) e (held (λ (g : Held). bit g.image g.pivot ≡ 1) kept.pivot)));
           }
 
-      pub reduce_more : (k' v' : ℕ)
-          → k' ≡ cond (has v (get_or pivots i 0)) (bit_xor k (get_or words i 0)) k
-          → v' ≡ cond (has v (get_or pivots i 0)) (bit_xor v (get_or images i 0)) v
-          → Reduced f t pivots (i + 1) k' v'
-      reduce_more k' v' ek ev =
-          let p = get_or pivots i 0 in
-          let k-is = cond (has v p) (bit_xor k (get_or words i 0)) k in
-          let step = digit_case (bit v p) (bit_lt v p)
-          (λ (d : ℕ). bit v p ≡ d → Reduced f t pivots (i + 1) (cond (eqb d 1) (bit_xor k (get_or words i 0)) k) (cond (eqb d 1) (bit_xor v (get_or images i 0)) v))
-          reduce_skip reduce_add refl in
-          subst (λ (x : ℕ). Reduced f t pivots (i + 1) x v') (sym ek) (subst (λ (y : ℕ). Reduced f t pivots (i + 1) k-is y) (sym ev) step)
+      pub reduce_more : (found' : Imaged)
+          → found'.word ≡ cond (has found.image h.pivot) (bit_xor found.word h.word) found.word
+          → found'.image ≡ cond (has found.image h.pivot) (bit_xor found.image h.image) found.image
+          → Reduced f basis (i + 1) found'
+      reduce_more found' ek ev =
+          let b = bit found.image h.pivot in
+          let at : ℕ → Imaged = λ d. record { word = cond (eqb d 1) (bit_xor found.word h.word) found.word; image = cond (eqb d 1) (bit_xor found.image h.image) found.image } in
+          let step = digit_case b (bit_lt found.image h.pivot) (λ (d : ℕ). b ≡ d → Reduced f basis (i + 1) (at d)) reduce_skip reduce_add refl in
+          let is : found' ≡ at b = ap₂ (λ (k v : ℕ). record { word = k; image = v }) ek ev in
+          subst (Reduced f basis (i + 1)) (sym is) step
 
     -- ---- a word without any pivot in its image
 
-    module _ (k v : ℕ) (found : Reduced f t pivots t k v) where
-      pub clash_here : (n : ℕ) → t < n → v ≡ 0 → Clash n f (Some (bit_xor k (2 ^ t), 2 ^ t))
-      clash_here n l e = (
-        without_top t k (2 ^ t) found.below (pow-lt (omega arith)) found.top (bit_power t),
-        pow-lt l,
-        sums k (2 ^ t) ∙ ap (λ (z : ℕ). bit_xor z (f (2 ^ t))) (sym found.is ∙ e),
-        kept_apart,
-      )
+    module _ (found : Imaged) (reduced : Reduced f basis (length basis) found) where
+      pub clash_here : (n : ℕ) (p : ℕ × ℕ) → length basis < n → found.image ≡ 0
+          → p.0 ≡ bit_xor found.word (2 ^ length basis) → p.1 ≡ 2 ^ length basis → Clash n f (Some p)
+      clash_here n p l e low high =
+          let t = length basis in
+          let clash : Clash n f (Some (bit_xor found.word (2 ^ t), 2 ^ t)) = (
+            without_top t found.word (2 ^ t) reduced.below (pow-lt (omega arith)) reduced.top (bit_power t),
+            pow-lt l,
+            sums found.word (2 ^ t) ∙ ap (λ (z : ℕ). bit_xor z (f (2 ^ t))) (sym reduced.is ∙ e),
+            kept_apart,
+          ) in
+          subst (λ (q : ℕ × ℕ). Clash n f (Some q)) (sym (ap₂ (λ (x y : ℕ). (x, y)) low high)) clash
 
-      module _ (p : ℕ) (has_p : bit v p ≡ 1) where
+      module _ (h : Held) (word : h.word ≡ found.word) (image : h.image ≡ found.image) (one : bit h.image h.pivot ≡ 1) where
         -- only 0 lacks the new pivot too
-        alone_more : (y : ℕ) → y < 2 ^ suc t → ((j : ℕ) → j < t → bit (f y) (get_or pivots j 0) ≡ 0) → bit (f y) p ≡ 0 → y ≡ 0
-        alone_more y ly h hp =
+        alone_more : (y : ℕ) → y < 2 ^ suc (length basis) → All (Lacks (f y)) basis → Lacks (f y) h → y ≡ 0
+        alone_more y ly lacks here =
+            let t = length basis in
+            let k = found.word in
+            let v = found.image in
             digit_case (bit y t) (bit_lt y t) (λ (d : ℕ). bit y t ≡ d → y ≡ 0)
-            (λ none. kept.alone y (drop_top t y ly none) h)
-            (λ one.
+            (λ none. kept.alone y (drop_top t y ly none) lacks)
+            (λ top.
             let z = bit_xor y k in
-            let fz : f z ≡ bit_xor (f y) v = sums y k ∙ ap (bit_xor (f y)) (sym found.is) in
-            let gone : z ≡ 0 = kept.alone z (without_top t y k ly found.below one found.top)
-            (λ j l. ap (λ (w : ℕ). bit w (get_or pivots j 0)) fz ∙ bit_of_xor (f y) v (get_or pivots j 0) ∙ ap₂ (λ (c d : ℕ). (c + d) % 2) (h j l) (found.lacks j l)) in
-            let same : f y ≡ v = ap f (equal_by_sum y k gone) ∙ sym found.is in
-            absurd (omega (arith, sym hp ∙ ap (λ (w : ℕ). bit w p) same ∙ has_p)))
+            let fz : f z ≡ bit_xor (f y) v = sums y k ∙ ap (bit_xor (f y)) (sym reduced.is) in
+            let gone : z ≡ 0 = kept.alone z (without_top t y k ly reduced.below top reduced.top)
+            (λ j d l.
+            let q = (get_or basis j d).pivot in
+            ap (λ (w : ℕ). bit w q) fz ∙ bit_of_xor (f y) v q ∙ ap₂ (λ (a b : ℕ). (a + b) % 2) (lacks j d l) (reduced.lacks j d (omega arith) l)) in
+            let same : f y ≡ h.image = ap f (equal_by_sum y k gone) ∙ sym reduced.is ∙ sym image in
+            absurd (omega (arith, sym here ∙ ap (λ (w : ℕ). bit w h.pivot) same ∙ one)))
             refl
 
-        pub kept_more : t < length words → t < length images → t < length pivots
-            → Kept f (t + 1) (set words t k) (set images t v) (set pivots t p)
-        kept_more lw li lp =
-            let new-w : get_or (set words t k) t 0 ≡ k = get_or-set_same words t k 0 lw in
-            let new-i : get_or (set images t v) t 0 ≡ v = get_or-set_same images t v 0 li in
-            let new-p : get_or (set pivots t p) t 0 ≡ p = get_or-set_same pivots t p 0 lp in
-            let old-w : (j : ℕ) → j < t → get_or (set words t k) j 0 ≡ get_or words j 0 = λ j l. get_or-set_other words t j k 0 (λ q. omega arith) in
-            let old-i : (j : ℕ) → j < t → get_or (set images t v) j 0 ≡ get_or images j 0 = λ j l. get_or-set_other images t j v 0 (λ q. omega arith) in
-            let old-p : (j : ℕ) → j < t → get_or (set pivots t p) j 0 ≡ get_or pivots j 0 = λ j l. get_or-set_other pivots t j p 0 (λ q. omega arith) in
-            let two : 2 ^ (t + 1) ≡ 2 ^ suc t = ap (λ (n : ℕ). 2 ^ n) (add-one t) in
+        pub kept_more : Kept f (basis ++ h ∷ [])
+        kept_more =
+            let lines : 2 ^ length (basis ++ h ∷ []) ≡ 2 ^ suc (length basis) = ap (λ (n : ℕ). 2 ^ n) (length_push basis h ∙ add-one (length basis)) in
             record {
-              word = below_more (λ j. get_or (set words t k) j 0 < 2 ^ (t + 1)) t
-                  (λ j l. omega (arith, old-w j l, kept.word j l, two, pow-suc 2 t)) (omega (arith, found.below));
-              image = below_more (λ j. get_or (set images t v) j 0 ≡ f (get_or (set words t k) j 0)) t
-                  (λ j l. old-i j l ∙ kept.image j l ∙ ap f (sym (old-w j l))) (new-i ∙ found.is ∙ ap f (sym new-w));
-              pivot = below_more (λ j. bit (get_or (set images t v) j 0) (get_or (set pivots t p) j 0) ≡ 1) t
-                  (λ j l. ap₂ bit (old-i j l) (old-p j l) ∙ kept.pivot j l) (ap₂ bit new-i new-p ∙ has_p);
-              later = λ i j lij lj. below_more (λ j. (i : ℕ) → i < j → bit (get_or (set images t v) j 0) (get_or (set pivots t p) i 0) ≡ 0) t
-                  (λ j l i lij. ap₂ bit (old-i j l) (old-p i (omega arith)) ∙ kept.later i j lij l)
-                  (λ i lij. ap₂ bit new-i (old-p i lij) ∙ found.lacks i lij) j lj i lij;
-              alone = λ y ly h. alone_more y (omega arith)
-                  (λ j l. ap (bit (f y)) (sym (old-p j l)) ∙ h j (omega arith)) (ap (bit (f y)) (sym new-p) ∙ h t (omega arith));
+              word = All-push (λ (g : Held). g.word < 2 ^ length (basis ++ h ∷ [])) basis h
+                  (λ j d l. omega (arith, kept.word j d l, lines, pow-suc 2 (length basis))) (omega (arith, reduced.below, lines));
+              image = All-push (λ (g : Held). g.image ≡ f g.word) basis h kept.image (image ∙ reduced.is ∙ ap f (sym word));
+              pivot = All-push (λ (g : Held). bit g.image g.pivot ≡ 1) basis h kept.pivot one;
+              later = all_pairs_push (λ (g k : Held). bit k.image g.pivot ≡ 0) basis h kept.later
+                  (λ j d l. ap (λ (w : ℕ). bit w (get_or basis j d).pivot) image ∙ reduced.lacks j d (omega arith) l);
+              alone = λ y ly lacks.
+                  let parts = All-pop (Lacks (f y)) (basis ++ h ∷ []) basis (Some h) refl lacks in
+                  alone_more y (omega (arith, ly, lines)) parts.0 parts.1;
             }

@@ -13,12 +13,11 @@ use Rattle.words.proofs.Tops.{below_by_bits, drop_top, without_top, equal_by_sum
 use Rattle.gates.specs.Cnots.{cnot_legal}
 use Rattle.gates.specs.declared.cnot.Cnot.{Cnot}
 use Rattle.gates.specs.CnotLaws.{legal_says}
-use Rattle.matrices.specs.Matrices.{image}
+use Rattle.matrices.specs.Matrices.{image, add_row}
 use Rattle.matrices.specs.Meanings.{rows_of}
-use Rattle.matrices.specs.Solving.{Added, Solved}
+use Rattle.matrices.specs.Solved.{Solved}
 use Rattle.matrices.specs.declared.matrix.Matrix.{Matrix}
-use Rattle.matrices.specs.declared.matrix.inverse.Solving.{Solving}
-use Rattle.matrices.proofs.Additions.{solved_added, target_bit, other_bit}
+use Rattle.matrices.proofs.Additions.{target_bit, other_bit}
 use Rattle.matrices.proofs.Held.{length_rows, image_keeps}
 use Rattle.matrices.proofs.Images.{image_sum, bit_column}
 
@@ -40,35 +39,31 @@ some_pivot m d h solved none =
 
 -- column d is that of identity in the rows so far
 pub record Cleared (m : Matrix) (d i : ℕ) : Type 0 where
-  pub solved : Solved m d
   pub one : bit (get_or (rows_of m) d 0) d ≡ 1
   pub zeros : (k : ℕ) → k < i → (k ≡ d → ⊥) → bit (get_or (rows_of m) k 0) d ≡ 0
 
 -- row `control` clears its column in row `target`
-pub cleared_added : (s s' : Solving) (g : Cnot) → cnot_legal s.left.lines g ≡ true → Added g s s'
-    → Cleared s.left g.control g.target → bit (get_or (rows_of s.left) g.target 0) g.control ≡ 1
-    → Cleared s'.left g.control (g.target + 1)
-cleared_added s s' g legal added cleared one =
+pub cleared_added : (m m' : Matrix) (g : Cnot) → cnot_legal m.lines g ≡ true → rows_of m' ≡ add_row g (rows_of m)
+    → Cleared m g.control g.target → bit (get_or (rows_of m) g.target 0) g.control ≡ 1 → Cleared m' g.control (g.target + 1)
+cleared_added m m' g legal rows cleared one =
     let c = g.control in
     let t = g.target in
     record {
-      solved = solved_added s s' g legal added c (omega arith) cleared.solved;
-      one = other_bit s s' g legal added c c (legal_says s.left.lines g legal).differ ∙ cleared.one;
-      zeros = below_more (λ k. (k ≡ c → ⊥) → bit (get_or (rows_of s'.left) k 0) c ≡ 0) t
-          (λ k l ne. other_bit s s' g legal added k c (λ e. omega arith) ∙ cleared.zeros k l ne)
-          (λ _. target_bit s s' g legal added c ∙ ap₂ (λ (x y : ℕ). (x + y) % 2) one cleared.one);
+      one = other_bit m m' g legal rows c c (legal_says m.lines g legal).differ ∙ cleared.one;
+      zeros = below_more (λ k. (k ≡ c → ⊥) → bit (get_or (rows_of m') k 0) c ≡ 0) t
+          (λ k l ne. other_bit m m' g legal rows k c (λ e. omega arith) ∙ cleared.zeros k l ne)
+          (λ _. target_bit m m' g legal rows c ∙ ap₂ (λ (x y : ℕ). (x + y) % 2) one cleared.one);
     }
 
 pub cleared_skip : (m : Matrix) (d i : ℕ) → Cleared m d i → ((i ≡ d → ⊥) → bit (get_or (rows_of m) i 0) d ≡ 0) → Cleared m d (i + 1)
 cleared_skip m d i cleared none = record {
-  solved = cleared.solved;
   one = cleared.one;
   zeros = below_more (λ k. (k ≡ d → ⊥) → bit (get_or (rows_of m) k 0) d ≡ 0) i cleared.zeros none;
 }
 
 -- with column d done, the words on d + 1 lines are their own images
-pub solved_more : (m : Matrix) (d : ℕ) → Cleared m d m.lines → Solved m (d + 1)
-solved_more m d cleared = record { fixed = fixed; single = cleared.solved.single }
+pub solved_more : (m : Matrix) (d : ℕ) → Solved m d → Cleared m d m.lines → Solved m (d + 1)
+solved_more m d solved cleared = record { fixed = fixed; single = solved.single }
   where
     f : ℕ → ℕ
     f = image (rows_of m)
@@ -90,10 +85,10 @@ solved_more m d cleared = record { fixed = fixed; single = cleared.solved.single
         let y = bit_xor x (2 ^ d) in
         let back = flip_twice x (2 ^ d) in
         let low : y < 2 ^ d = without_top d x (2 ^ d) l (pow-lt (omega arith)) top (bit_power d) in
-        ap f (sym back) ∙ image_sum (rows_of m) y (2 ^ d) ∙ ap₂ bit_xor (cleared.solved.fixed y low) unit_fixed ∙ back
+        ap f (sym back) ∙ image_sum (rows_of m) y (2 ^ d) ∙ ap₂ bit_xor (solved.fixed y low) unit_fixed ∙ back
 
     fixed : Identity (d + 1) f
     fixed x l =
         let lx : x < 2 ^ suc d = subst (λ (k : ℕ). x < 2 ^ k) (add-one d) l in
         digit_case (bit x d) (bit_lt x d) (λ (b : ℕ). bit x d ≡ b → f x ≡ x)
-        (λ none. cleared.solved.fixed x (drop_top d x lx none)) (with_top x lx) refl
+        (λ none. solved.fixed x (drop_top d x lx none)) (with_top x lx) refl

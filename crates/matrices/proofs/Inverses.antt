@@ -6,7 +6,8 @@ use Rattle.words.specs.Maps.{Apart, Identity}
 use Rattle.words.proofs.Tops.{equal_by_sum}
 use Rattle.matrices.specs.Matrices.{image, unit_rows}
 use Rattle.matrices.specs.Meanings.{rows_of, Inverted}
-use Rattle.matrices.specs.Solving.{Solved, Stepped}
+use Rattle.matrices.specs.Solved.{Solved}
+use Rattle.matrices.specs.Solving.{Stepped}
 use Rattle.matrices.specs.declared.matrix.Matrix.{Matrix}
 use Rattle.matrices.specs.declared.matrix.inverse.Solving.{Solving}
 use Rattle.matrices.proofs.Held.{length_rows, image_keeps}
@@ -23,13 +24,12 @@ units_identity : (n : ℕ) → Identity n (image (unit_rows 0 n))
 units_identity n =
     identity_by_rows n (unit_rows 0 n) (length_units 0 n) (λ r h. unit_at 0 n r h ∙ ap (λ (e : ℕ). 2 ^ e) (zero-add r))
 
-module _ (m first : Matrix) (lines : first.lines ≡ m.lines) (units : rows_of first ≡ unit_rows 0 m.lines)
-    (end : Solving) (step : Stepped (record { left = m; made = first }) end) (solved : Solved end.left m.lines) where
+module _ (start end : Solving) (units : rows_of start.made ≡ unit_rows 0 start.left.lines) (step : Stepped start end) (done : end.done ≡ start.left.lines) where
   n : ℕ
-  n = m.lines
+  n = start.left.lines
 
   f : ℕ → ℕ
-  f = image (rows_of m)
+  f = image (rows_of start.left)
 
   made : ℕ → ℕ
   made = image (rows_of end.made)
@@ -40,21 +40,22 @@ module _ (m first : Matrix) (lines : first.lines ≡ m.lines) (units : rows_of f
 
   made_keeps : (y : ℕ) → made y < 2 ^ n
   unfolding n made
-  made_keeps y = subst (λ (k : ℕ). made y < 2 ^ k) (length_rows end.made ∙ step.made_lines ∙ lines) (image_lt (rows_of end.made) y)
+  made_keeps y = subst (λ (k : ℕ). made y < 2 ^ k) (length_rows end.made ∙ end.same ∙ step.lines) (image_lt (rows_of end.made) y)
 
   undoes : (x : ℕ) → x < 2 ^ n → made (f x) ≡ x
   unfolding n f
-  undoes x l = made_is (f x) (image_keeps m x l) ∙ sym (step.left x) ∙ solved.fixed x l
+  undoes x l =
+      made_is (f x) (image_keeps start.left x l) ∙ sym (step.left x) ∙ end.solved.fixed x (subst (λ (k : ℕ). x < 2 ^ k) (sym done) l)
 
   -- what is made tells f (made y) and y apart, unless they are equal
   undone : (y : ℕ) → y < 2 ^ n → f (made y) ≡ y
   unfolding n f made
   undone y l =
       let z = f (made y) in
-      let lz : z < 2 ^ n = image_keeps m (made y) (made_keeps y) in
+      let lz : z < 2 ^ n = image_keeps start.left (made y) (made_keeps y) in
       let none : made (bit_xor z y) ≡ 0 = image_sum (rows_of end.made) z y ∙ ap (λ (w : ℕ). bit_xor w (made y)) (undoes (made y) (made_keeps y)) ∙ xor_self (made y) in
       equal_by_sum z y (step.single (bit_xor z y) (sym (made_is (bit_xor z y) (xor_lt n z y lz l)) ∙ none))
 
-  pub solved_all : Inverted m (Ok end.made)
+  pub solved_all : Inverted start.left (Ok end.made)
   unfolding n f made
-  solved_all = (step.made_lines ∙ lines, undoes, undone)
+  solved_all = (end.same ∙ step.lines, undoes, undone)

@@ -1,4 +1,5 @@
 pub mod Columns
 pub mod Matrices
 pub mod Meanings
+pub mod Solved
 pub mod Solving

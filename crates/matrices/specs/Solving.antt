@@ -1,28 +1,20 @@
 -- How an inverse is made: the same row additions go into the matrix, until it is identity, and into identity.
-use Rattle.std.specs.Prelude.{◌≡◌, ℕ, ◌^◌, ◌<◌}
-use Rattle.words.specs.Maps.{Identity}
+use Rattle.std.specs.Prelude.{◌≡◌, ℕ}
 use Rattle.gates.specs.declared.cnot.Cnot.{Cnot}
 use Rattle.matrices.specs.Matrices.{image, add_row}
 use Rattle.matrices.specs.Meanings.{rows_of}
-use Rattle.matrices.specs.declared.matrix.Matrix.{Matrix}
 use Rattle.matrices.specs.declared.matrix.inverse.Solving.{Solving}
 
 -- The same row addition in both.
 pub record Added (g : Cnot) (s s' : Solving) : Type 0 where
   pub lines : s'.left.lines ≡ s.left.lines
   pub left : rows_of s'.left ≡ add_row g (rows_of s.left)
-  pub made_lines : s'.made.lines ≡ s.made.lines
   pub made : rows_of s'.made ≡ add_row g (rows_of s.made)
-
--- The words on the first d lines are their own images, and only 0 has the image 0.
-pub record Solved (m : Matrix) (d : ℕ) : Type 0 where
-  pub fixed : Identity d (image (rows_of m))
-  pub single : (x : ℕ) → x < 2 ^ m.lines → image (rows_of m) x ≡ 0 → x ≡ 0
+  pub done : s'.done ≡ s.done
 
 -- The row additions of a step: `map` is what they make of the images of either matrix, and only 0 comes to 0.
 pub record Stepped (s s' : Solving) : Type 0 where
   pub lines : s'.left.lines ≡ s.left.lines
-  pub made_lines : s'.made.lines ≡ s.made.lines
   pub map : ℕ → ℕ
   pub single : (y : ℕ) → map y ≡ 0 → y ≡ 0
   pub left : (x : ℕ) → image (rows_of s'.left) x ≡ map (image (rows_of s.left) x)

@@ -7,7 +7,7 @@ mod make;
 mod piece;
 mod rows;
 
-// Entry (r, c) is bit c of row word r. Only the first `lines` rows count.
+// Entry (r, c) is bit c of row word r. Only the first `lines` rows count: a matrix is Copy, as no ArrayVec of rows would be.
 #[derive(Clone, Copy)]
 pub struct Matrix {
     lines: u8,

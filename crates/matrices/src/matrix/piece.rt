@@ -31,7 +31,7 @@ impl Piece<Cnot> for Matrix {
 
     // Whether the rows are the unit rows.
     fn is_identity(&self) -> bool {
-        are_units(&self.rows, self.lines)
+        are_units(self.rows())
     }
 
     fn clash(&self) -> Option<(u64, u64)> {
@@ -43,9 +43,7 @@ impl Piece<Cnot> for Matrix {
         ensures after { MatchResult result (λ _. Moved cnot Input gate (matrix_meaning self.old) (matrix_meaning self.new)) (λ _. self.new ≡ self.old) }
         ensures rows { MatchResult result (λ _. rows_of self.new ≡ add_column gate (rows_of self.old)) (λ _. self.new ≡ self.old) }
     {
-        if !gate.is_legal(self.lines) {
-            return Err(Refusal::IllegalGate);
-        }
+        gate.check(self.lines)?;
         self.put_input(gate);
         Ok(())
     }
@@ -55,9 +53,7 @@ impl Piece<Cnot> for Matrix {
         ensures after { MatchResult result (λ _. Moved cnot Output gate (matrix_meaning self.old) (matrix_meaning self.new)) (λ _. self.new ≡ self.old) }
         ensures rows { MatchResult result (λ _. rows_of self.new ≡ add_row gate (rows_of self.old)) (λ _. self.new ≡ self.old) }
     {
-        if !gate.is_legal(self.lines) {
-            return Err(Refusal::IllegalGate);
-        }
+        gate.check(self.lines)?;
         self.put_output(gate);
         Ok(())
     }
@@ -69,19 +65,21 @@ impl Matrix {
         ensures { result ≡ image (rows_of self.now) word }
     {
         let mut image = 0;
-        for r in 0..self.lines {
-            image |= shared(self.rows[r as usize], word) << r;
+        for (r, row) in self.rows().iter().enumerate() {
+            image |= shared(*row, word) << r;
         }
         image
     }
 
-    // The gate comes first: column `target` is added to column `control`.
+    // The gate comes first: column `target` is added to column `control`. That a gate is legal on these lines is a fact of both, so that
+    // no type says it.
     fn put_input(&mut self, gate: Cnot)
         requires { cnot.legal self.old.lines gate ≡ true }
         ensures lines { self.new.lines ≡ self.old.lines }
         ensures rows { rows_of self.new ≡ add_column gate (rows_of self.old) }
+        ensures after { Moved cnot Input gate (matrix_meaning self.old) (matrix_meaning self.new) }
     {
-        add_column(&mut self.rows, self.lines, gate);
+        add_column(&mut self.rows, gate);
     }
 
     // The gate comes last: row `control` is added to row `target`.
@@ -89,6 +87,7 @@ impl Matrix {
         requires { cnot.legal self.old.lines gate ≡ true }
         ensures lines { self.new.lines ≡ self.old.lines }
         ensures rows { rows_of self.new ≡ add_row gate (rows_of self.old) }
+        ensures after { Moved cnot Output gate (matrix_meaning self.old) (matrix_meaning self.new) }
     {
         add_row(&mut self.rows, gate);
     }

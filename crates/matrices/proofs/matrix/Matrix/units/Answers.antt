@@ -1,32 +1,19 @@
-use Rattle.std.proofs.Common.{◌≡◌, ℕ, ◌^◌, ◌<◌, ◌≤◌, length, get_or, take, set, sym, refl, ap, ◌∙◌, subst, arith, length-set}
+use Rattle.std.proofs.Common.{ℕ, ◌^◌, ◌<◌, take, sym, ◌∙◌, subst, arith}
 use lib.Pow.{pow-lt}
-use Rattle.std.proofs.lemmas.List.Edits.{fill_by_more}
 use Rattle.std.proofs.lemmas.List.{length-take-le, get_or-take}
 use Rattle.words.proofs.Flips.{unit_power}
 use Rattle.matrices.proofs.Identities.{units_by_rows}
 use Rattle.matrices.proofs.matrix.Matrix.units.Goals as goal
 
-pub loop-r-preserved : goal.loop-r-preserved
-loop-r-preserved c =
-    let rows = c.loop-r.rows in
-    let r = c.loop-r.r in
-    let within : r < length rows = omega (arith, c.loop-r.invariant.0) in
-    let one : c.unit.result ≡ 2 ^ r = c.unit.ensures ∙ unit_power r (omega arith) in (
-      length-set rows r c.unit.result ∙ c.loop-r.invariant.0,
-      λ k h. ap (λ (w : ℕ). get_or (set rows r w) k 0) one ∙ fill_by_more (λ i. 2 ^ i) rows r 0 within c.loop-r.invariant.1 k h,
-    )
+pub invariant_of-result-clause-below : goal.invariant_of-result-clause-below
+invariant_of-result-clause-below c r h =
+    let few : r < 64 = omega (arith, c.requires.few) in
+    subst (λ (w : ℕ). w < 2 ^ c.args.lines) (sym (c.unit_words.ensures r few ∙ unit_power r few)) (pow-lt h)
 
-pub invariant_of-result : goal.invariant_of-result
-invariant_of-result c =
-    let below = λ (r : ℕ) (h : r < c.args.lines). subst (λ (w : ℕ). w < 2 ^ c.args.lines) (sym (c.loop-r.invariant.1 r (omega arith))) (pow-lt h) in
-    record { some = c.requires.some; few = c.requires.few; full = c.loop-r.invariant.0; below = below }
-
-pub returns : goal.returns
-returns c =
+pub returns-clause-rows : goal.returns-clause-rows
+returns-clause-rows c =
     let n = c.args.lines in
-    let rows = c.loop-r.rows in
-    let within : n ≤ length rows = omega (arith, c.loop-r.invariant.0) in
-    record {
-      lines = refl;
-      rows = units_by_rows n (take n rows) (length-take-le n rows within) (λ r h. get_or-take n rows r 0 h ∙ c.loop-r.invariant.1 r (omega arith));
-    }
+    let rows = c.unit_words.result in
+    units_by_rows n (take n rows) (length-take-le n rows (omega arith)) (λ r h.
+    let few : r < 64 = omega (arith, c.requires.few) in
+    get_or-take n rows r 0 h ∙ c.unit_words.ensures r few ∙ unit_power r few)

@@ -1,20 +1,25 @@
-use Rattle.std.proofs.Common.{◌<◌, length, get_or, set, refl, ap, ◌∙◌, arith}
+use Rattle.std.proofs.Common.{◌≡◌, ℕ, ◌<◌, cond, length, get_or, set, refl, ap, ◌∙◌, arith}
+use lib.Bits.{bit_xor}
 use Rattle.std.proofs.lemmas.List.Edits.{map_over_more}
 use Rattle.std.proofs.lemmas.List.{get_or_default}
+use Rattle.words.specs.Words.{has}
+use Rattle.words.proofs.Flips.{unit_power}
 use Rattle.matrices.specs.Matrices.{add_column}
 use Rattle.matrices.proofs.Turns.{turned}
 use Rattle.matrices.proofs.matrix.rows.add_column.Goals as goal
 
-pub loop-r-init : goal.loop-r-init
+pub loop-row-init : goal.loop-row-init
 unfolding add_column
-loop-r-init c = refl
+loop-row-init c = refl
 
-pub loop-r-preserved : goal.loop-r-preserved
+pub loop-row-preserved : goal.loop-row-preserved
 unfolding add_column
-loop-r-preserved c =
+loop-row-preserved c =
     let g = c.args.gate in
-    let rows = c.loop-r.rows in
-    let r = c.loop-r.r in
+    let rows = c.loop-row.rows in
+    let r = c.loop-row.row-index in
+    let row = get_or rows r 0 in
     let within : r < length rows = omega arith in
-    ap (set rows r) c.column_added.ensures
-    ∙ map_over_more (turned g.target g.control) c.args.rows.now rows r (get_or rows r 0) (omega arith) c.loop-r.invariant (get_or_default rows r 0 _ within)
+    let is : c.column_added.result ≡ turned g.target g.control row =
+    c.column_added.ensures ∙ ap (λ (flip : ℕ). cond (has row g.target) (bit_xor row flip) row) (unit_power g.control c.requires) in
+    ap (set rows r) is ∙ map_over_more (turned g.target g.control) c.args.rows.now rows r row (omega arith) c.loop-row.invariant (get_or_default rows r 0 _ within)

@@ -1,80 +1,58 @@
-use Rattle.std.proofs.Common.{◌≡◌, ℕ, ◌+◌, ◌<◌, true, false, not, ◌&&◌, eqb, get_or, sym, ap, ◌∙◌, subst, arith}
-use Rattle.std.proofs.lemmas.Bool.Decides.{nat_tests}
+use Rattle.std.proofs.Common.{◌≡◌, ℕ, ◌+◌, true, get_or, sym, refl, ◌∙◌, subst, arith}
+use Rattle.std.proofs.lemmas.Bool.{false≢true}
 use Rattle.words.specs.Words.{bit}
-use Rattle.words.proofs.Bits.{bit_lt}
 use Rattle.gates.specs.Cnots.{cnot_legal}
 use Rattle.gates.specs.declared.cnot.Cnot.{Cnot}
+use Rattle.matrices.specs.Meanings.{rows_of}
 use Rattle.matrices.specs.Solving.{Stepped}
 use Rattle.matrices.specs.declared.matrix.inverse.Solving.{Solving}
-use Rattle.matrices.proofs.Additions.{legal_when, same_lines, step_none, step_more, step_added}
+use Rattle.matrices.proofs.Additions.{legal_when, step_none, step_more, step_added}
 use Rattle.matrices.proofs.Clearings.{Cleared, cleared_added, cleared_skip, solved_more}
-use Rattle.matrices.proofs.Held.{row_at}
 use Rattle.matrices.proofs.matrix.inverse.Solving.clear_column.Goals as goal
 use Rattle.matrices.proofs.matrix.inverse.Solving.clear_column.Goals.{then-has_other, else-has_other}
-
--- what the test of a row tells
-is_other : (i d b : ℕ) → true ≡ (not (eqb i d) && eqb b 1) → (i ≡ d → ⊥) × (b ≡ 1)
-is_other i d b h = (grind (arith, nat_tests), grind (arith, nat_tests))
-
-no_other : (i d b : ℕ) → b < 2 → false ≡ (not (eqb i d) && eqb b 1) → (i ≡ d → ⊥) → b ≡ 0
-no_other i d b l h ne = grind (arith, nat_tests)
 
 pub loop-i-init : goal.loop-i-init
 loop-i-init c =
     let set = c.set_pivot.ensures in
-    (step_none c.set_pivot.new.self, record { solved = set.solved; one = set.one; zeros = λ k l. absurd (omega arith) })
-
-pub add-requires : goal.add-requires
-add-requires c =
-    let start = c.set_pivot.new.self in
-    let s = c.loop-i.self in
-    let set = c.set_pivot.ensures.stepped in
-    let step = c.loop-i.invariant.0 in
-    let d = c.args.d in
-    let i = c.loop-i.i in
-    let g : Cnot = record { control = d; target = i } in
-    let other = is_other i d (bit (get_or s.left.rows i 0) d) c.if-has_other.ensures in
-    record {
-      legal = legal_when s.left.lines g s.left.few (omega (arith, step.lines, set.lines)) (omega (arith, step.lines)) (λ e. other.0 (sym e));
-      same = same_lines start s step (same_lines c.args.self.now start set c.requires.same);
-    }
+    record { stepped = step_none _ _ refl refl; done = set.done; cleared = record { one = set.one; zeros = λ k l. absurd (omega arith) } }
 
 pub loop-i-preserved : goal.loop-i-preserved
 loop-i-preserved c =
     let start = c.set_pivot.new.self in
     let s = c.loop-i.self in
-    let d = c.args.d in
+    let d = c.args.self.now.done in
     let i = c.loop-i.i in
-    let set = c.set_pivot.ensures.stepped in
-    let step = c.loop-i.invariant.0 in
-    let cleared = c.loop-i.invariant.1 in
-    let within : i < s.left.lines = omega (arith, step.lines) in
-    let at = ap (λ (w : ℕ). bit w d) (row_at s.left i within) in
-    let P : Solving → Type 0 = λ s'. Stepped start s' × Cleared s'.left d (i + 1) in
+    let inv = c.loop-i.invariant in
+    let entry = bit (get_or (rows_of s.left) i 0) d in
+    let P : Solving → Type 0 = λ s'. record { stepped : Stepped start s'; done : s'.done ≡ d; cleared : Cleared s'.left d (i + 1) } in
     elim c.if-has_other.branch [
       | then-has_other w ↦
           let s' = w.add.new.self in
           let g : Cnot = record { control = d; target = i } in
-          let other = is_other i d (bit (get_or s.left.rows i 0) d) w.if-has_other.ensures in
-          let legal : cnot_legal s.left.lines g ≡ true = legal_when s.left.lines g s.left.few (omega (arith, step.lines, set.lines)) within (λ e. other.0 (sym e)) in
-          let same = same_lines start s step (same_lines c.args.self.now start set c.requires.same) in
-          subst P (sym w.self-is) (
-            step_more start s s' step (step_added s s' g legal w.add.ensures same),
-            cleared_added s s' g legal w.add.ensures cleared (at ∙ other.1),
-          )
+          let added = w.add.ensures in
+          let other = w.if-has_other.ensures.0 refl in
+          let before : s.left.lines ≡ c.args.self.now.left.lines = inv.stepped.lines ∙ c.set_pivot.ensures.stepped.lines in
+          let legal : cnot_legal s.left.lines g ≡ true = legal_when s.left.lines g s.left.few (omega (arith, c.requires)) (omega (arith, inv.stepped.lines)) (λ e. other.0 (sym e)) in
+          subst P (sym w.self-is) (record {
+            stepped = step_more start s s' inv.stepped (step_added s s' g legal added);
+            done = added.done ∙ inv.done;
+            cleared = cleared_added s.left s'.left g legal added.left inv.cleared other.1;
+          })
       | else-has_other w ↦
-          let none = λ (ne : i ≡ d → ⊥). at ∙ no_other i d (bit (get_or s.left.rows i 0) d) (bit_lt (get_or s.left.rows i 0) d) w.if-has_other.ensures ne in
-          subst P (sym w.self-is) (step, cleared_skip s.left d i cleared none)
+          let none : (i ≡ d → ⊥) → entry ≡ 0 = λ ne.
+          let not_one : entry ≡ 1 → ⊥ = λ one. false≢true (w.if-has_other.ensures.1 (ne, one)) in
+          omega arith in
+          subst P (sym w.self-is) (record { stepped = inv.stepped; done = inv.done; cleared = cleared_skip s.left d i inv.cleared none })
     ]
 
-pub returns : goal.returns
-returns c =
+pub invariant_of-self-clause-solved : goal.invariant_of-self-clause-solved
+invariant_of-self-clause-solved c =
     let s = c.loop-i.self in
-    let d = c.args.d in
-    let set = c.set_pivot.ensures.stepped in
-    let step = c.loop-i.invariant.0 in
-    let end : c.loop-i.i ≡ s.left.lines = omega (arith, step.lines) in
-    record {
-      stepped = step_more c.args.self.now c.set_pivot.new.self s set step;
-      solved = solved_more s.left d (subst (Cleared s.left d) end c.loop-i.invariant.1);
-    }
+    let inv = c.loop-i.invariant in
+    let end : c.loop-i.i ≡ s.left.lines = omega (arith, inv.stepped.lines) in
+    solved_more s.left s.done s.solved (subst (λ (d : ℕ). Cleared s.left d s.left.lines) (sym inv.done) (subst (Cleared s.left c.args.self.now.done) end inv.cleared))
+
+pub returns-clause-stepped : goal.returns-clause-stepped
+returns-clause-stepped c =
+    step_more c.args.self.now c.set_pivot.new.self _ c.set_pivot.ensures.stepped
+    (step_more c.set_pivot.new.self c.loop-i.self _ c.loop-i.invariant.stepped (step_none _ _ refl refl))
