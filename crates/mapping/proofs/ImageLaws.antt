@@ -1,13 +1,15 @@
 -- What a gate makes of a list of images, at either end.
-use Rattle.std.proofs.Common.{◌≡◌, ℕ, ◌+◌, ◌/◌, ◌%◌, ◌^◌, ◌<◌, ◌≤◌, min, true, cond, eqb, ◌≢◌, ◌⊎◌, List, length, get_or, set, sym, refl, ap, ◌∙◌, subst, inl, inr, ⊎_elim, arith, length-set, get_or-set_other, get_or-set_same, pow_mono}
+use Rattle.std.proofs.Common.{◌≡◌, ℕ, ◌+◌, ◌/◌, ◌%◌, ◌^◌, ◌<◌, ◌≤◌, min, true, cond, eqb, ◌⊎◌, List, length, get_or, set, sym, refl, ap, ◌∙◌, subst, inl, inr, ⊎_elim, arith, length-set, get_or-set_other, get_or-set_same, pow_mono}
 use lib.Arith.{bin_ind}
 use lib.Bits.{bit_and, bit_or, bit_xor, and_step, and_le_l, and_le_r, or_step, or_lt, or_add_and, xor_lt}
 use lib.Pow.{pow-lt}
+use Rattle.std.proofs.lemmas.List.Edits.{Swapped, swapped_from_swap}
+use Rattle.std.specs.List.{swap}
 use Rattle.std.proofs.lemmas.Bool.{cases_eq, cases_order, cond-true, cond-false, cases_Bool, eqb-true, eqb-false}
-use Rattle.words.specs.Words.{bit}
+use Rattle.words.specs.Words.{bit, unit}
 use Rattle.words.specs.Maps.{Same}
 use Rattle.words.proofs.Bits.{bit_lt, bit_of_and, bit_of_xor, bit_power, bit_power_other, same_bits}
-use Rattle.words.proofs.Flips.{flip_twice, mask_flip}
+use Rattle.words.proofs.Flips.{flip_twice, mask_flip, unit_power}
 use Rattle.gates.specs.Mcts.{mct, mct_legal}
 use Rattle.gates.specs.declared.mct.Mct.{Mct}
 use Rattle.gates.specs.MctLaws.{mct_lawful, legal_says}
@@ -88,18 +90,8 @@ pub record Exchanged (n : ℕ) (g : Mct) (xs ys : List ℕ) (w : ℕ) : Type 0 w
   pub left : (x : ℕ) → x < 2 ^ n → w ≤ bit_or x (2 ^ g.target) → get_or ys x 0 ≡ get_or xs x 0
 
 module _ (n : ℕ) (g : Mct) (legal : mct_legal n g ≡ true) where
-  abbrev flip_bit : ℕ
-  flip_bit = 2 ^ g.target
-
-  -- the lines that the larger word of a pair has
-  abbrev fixed : ℕ
-  fixed = bit_or g.controls (2 ^ g.target)
-
   flip_below : 2 ^ g.target < 2 ^ n
   flip_below = pow-lt (legal_says n g legal).target
-
-  pub fixed_below : bit_or g.controls (2 ^ g.target) < 2 ^ n
-  fixed_below = or_lt n g.controls (2 ^ g.target) (legal_says n g legal).controls flip_below
 
   -- a word with all controls has its pair among those with the fixed lines
   pair_covers : (x : ℕ) → bit_and x g.controls ≡ g.controls → bit_and (bit_or x (2 ^ g.target)) (bit_or g.controls (2 ^ g.target)) ≡ bit_or g.controls (2 ^ g.target)
@@ -126,9 +118,6 @@ module _ (n : ℕ) (g : Mct) (legal : mct_legal n g ≡ true) where
   all_exchanged xs ys w h s x l = s.made x l (omega (arith, or_lt n x (2 ^ g.target) l flip_below))
 
   module _ (w : ℕ) (covers : bit_and w (bit_or g.controls (2 ^ g.target)) ≡ bit_or g.controls (2 ^ g.target)) where
-    abbrev other : ℕ
-    other = bit_xor w (2 ^ g.target)
-
     has_target : bit w g.target ≡ 1
     has_target =
         let t = g.target in
@@ -144,9 +133,6 @@ module _ (n : ℕ) (g : Mct) (legal : mct_legal n g ≡ true) where
 
     other_lacks : bit (bit_xor w (2 ^ g.target)) g.target ≡ 0
     other_lacks = omega (arith, bit_of_xor w (2 ^ g.target) g.target, bit_power g.target, has_target)
-
-    differ : w ≡ bit_xor w (2 ^ g.target) → ⊥
-    differ e = omega (arith, ap (λ (v : ℕ). bit v g.target) e, other_lacks, has_target)
 
     pair_w : bit_or w (2 ^ g.target) ≡ w
     pair_w = or_has w g.target has_target
@@ -164,6 +150,10 @@ module _ (n : ℕ) (g : Mct) (legal : mct_legal n g ≡ true) where
       pub other_below : bit_xor w (2 ^ g.target) < 2 ^ n
       other_below = xor_lt n w (2 ^ g.target) word flip_below
 
+      pub pair_swapped : (xs ys : List ℕ) (b : ℕ) → 2 ^ n ≤ length xs → b ≡ 2 ^ g.target → ys ≡ swap xs w (bit_xor w b) → Swapped (λ i. get_or xs i 0) (λ i. get_or ys i 0) w (bit_xor w (2 ^ g.target))
+      pair_swapped xs ys b long bit e =
+          swapped_from_swap xs ys w (bit_xor w (2 ^ g.target)) 0 (omega arith) (omega (arith, other_below)) (e ∙ ap (λ (v : ℕ). swap xs w (bit_xor w v)) bit)
+
       act_w : mct.act n g w ≡ bit_xor w (2 ^ g.target)
       act_w = act_flips n g w legal word has_controls
 
@@ -172,36 +162,18 @@ module _ (n : ℕ) (g : Mct) (legal : mct_legal n g ≡ true) where
           act_flips n g (bit_xor w (2 ^ g.target)) legal other_below (mask_flip w g.controls g.target (legal_says n g legal).apart ∙ has_controls)
           ∙ flip_twice w (2 ^ g.target)
 
-      module _ (xs ys : List ℕ) (long : 2 ^ n ≤ length ys) (s : Exchanged n g xs ys w) where
-        abbrev zs : List ℕ
-        zs = set (set ys w (get_or ys (bit_xor w (2 ^ g.target)) 0)) (bit_xor w (2 ^ g.target)) (get_or ys w 0)
-
-        at_w : get_or zs w 0 ≡ get_or ys (bit_xor w (2 ^ g.target)) 0
-        at_w =
-            let o = bit_xor w (2 ^ g.target) in
-            get_or-set_other (set ys w (get_or ys o 0)) o w (get_or ys w 0) 0 differ ∙ get_or-set_same ys w (get_or ys o 0) 0 (omega arith)
-
-        at_other : get_or zs (bit_xor w (2 ^ g.target)) 0 ≡ get_or ys w 0
-        at_other =
-            let o = bit_xor w (2 ^ g.target) in
-            get_or-set_same (set ys w (get_or ys o 0)) o (get_or ys w 0) 0 (omega (arith, length-set ys w (get_or ys o 0), other_below))
-
-        elsewhere : (x : ℕ) → (x ≡ w → ⊥) → (x ≡ bit_xor w (2 ^ g.target) → ⊥) → get_or zs x 0 ≡ get_or ys x 0
-        elsewhere x nw ne =
-            let o = bit_xor w (2 ^ g.target) in
-            get_or-set_other (set ys w (get_or ys o 0)) o x (get_or ys w 0) 0 ne ∙ get_or-set_other ys w x (get_or ys o 0) 0 nw
-
+      module _ (xs ys zs : List ℕ) (swapped : Swapped (λ i. get_or ys i 0) (λ i. get_or zs i 0) w (bit_xor w (2 ^ g.target))) (s : Exchanged n g xs ys w) where
         -- another pair
         apart : (x : ℕ) → (bit_or x (2 ^ g.target) ≡ w → ⊥) → get_or zs x 0 ≡ get_or ys x 0
-        apart x ne = elsewhere x (λ e. ne (ap (λ (v : ℕ). bit_or v (2 ^ g.target)) e ∙ pair_w)) (λ e. ne (ap (λ (v : ℕ). bit_or v (2 ^ g.target)) e ∙ pair_other))
+        apart x ne = swapped.2 x (λ e. ne (ap (λ (v : ℕ). bit_or v (2 ^ g.target)) e ∙ pair_w)) (λ e. ne (ap (λ (v : ℕ). bit_or v (2 ^ g.target)) e ∙ pair_other))
 
         here : (x : ℕ) → (x ≡ w) ⊎ (x ≡ bit_xor w (2 ^ g.target)) → get_or zs x 0 ≡ get_or xs (mct.act n g x) 0
         here x at =
             let o = bit_xor w (2 ^ g.target) in
             let P : ℕ → Type 0 = λ v. get_or zs v 0 ≡ get_or xs (mct.act n g v) 0 in
             ⊎_elim
-            (λ e. subst P (sym e) (at_w ∙ s.left o other_below (omega (arith, pair_other)) ∙ ap (λ (v : ℕ). get_or xs v 0) (sym act_w)))
-            (λ e. subst P (sym e) (at_other ∙ s.left w word (omega (arith, pair_w)) ∙ ap (λ (v : ℕ). get_or xs v 0) (sym act_other)))
+            (λ e. subst P (sym e) (swapped.0 ∙ s.left o other_below (omega (arith, pair_other)) ∙ ap (λ (v : ℕ). get_or xs v 0) (sym act_w)))
+            (λ e. subst P (sym e) (swapped.1 ∙ s.left w word (omega (arith, pair_w)) ∙ ap (λ (v : ℕ). get_or xs v 0) (sym act_other)))
             at
 
         pub exchanged_more : Exchanged n g xs zs (bit_or (w + 1) (bit_or g.controls (2 ^ g.target)))
@@ -232,17 +204,38 @@ module _ (n : ℕ) (g : Mct) (legal : mct_legal n g ≡ true) where
       (λ q. act_leaves n g v (eqb-false (bit_and v c) c q) ∙ sym (cond-false (eqb (bit_and v c) c) _ _ q))
       (cases_Bool (eqb (bit_and v c) c))
 
-  pub flipped_below : (v : ℕ) → v < 2 ^ n → flip_of g v < 2 ^ n
-  flipped_below v h = subst (λ (k : ℕ). k < 2 ^ n) (act_is v h) (mct_lawful.keeps n g v h)
+  pub unit_is : unit g.target ≡ 2 ^ g.target
+  unit_is = let l = legal_says n g legal in unit_power g.target (omega (arith, l.target, l.most))
 
--- ---- one image more
+-- the images before i are passed through the gate
+pub record Passed (g : Mct) (xs ys : List ℕ) (i : ℕ) : Type 0 where
+  pub long : length ys ≡ length xs
+  pub made : (x : ℕ) → x < i → get_or ys x 0 ≡ flip_of g (get_or xs x 0)
+  pub left : (x : ℕ) → i ≤ x → get_or ys x 0 ≡ get_or xs x 0
 
-pub image_set : (xs : List ℕ) (i v m : ℕ) → i < length xs → (i < m → v < m) → ((x : ℕ) → x < m → get_or xs x 0 < m) → (x : ℕ) → x < m → get_or (set xs i v) x 0 < m
-image_set xs i v m within h below x k =
-    ⊎_elim
-    (λ e. let new : v < m = h (subst (λ (j : ℕ). j < m) e k) in subst (λ (j : ℕ). get_or (set xs i v) j 0 < m) (sym e) (rw get_or-set_same new))
-    (λ ne. let other : x ≢ i = ne in rw get_or-set_other (below x k))
-    (cases_eq x i)
+module _ (g : Mct) (xs : List ℕ) where
+  pub none_passed : Passed g xs xs 0
+  none_passed = record { long = refl; made = λ x h. absurd (omega arith); left = λ x h. refl }
+
+  module _ (ys : List ℕ) (i : ℕ) (p : Passed g xs ys i) where
+    pub passed_more : (v : ℕ) → i < length ys → v ≡ flip_of g (get_or ys i 0) → Passed g xs (set ys i v) (i + 1)
+    passed_more v h e =
+        record {
+          long = length-set ys i v ∙ p.long;
+          made = λ x k.
+              ⊎_elim
+              (λ q. ap (λ (j : ℕ). get_or (set ys i v) j 0) q ∙ get_or-set_same ys i v 0 h ∙ e ∙ ap (flip_of g) (p.left i (omega arith)) ∙ ap (λ (j : ℕ). flip_of g (get_or xs j 0)) (sym q))
+              (λ ne. get_or-set_other ys i x v 0 ne ∙ p.made x (omega arith))
+              (cases_eq x i);
+          left = λ x k. get_or-set_other ys i x v 0 (λ q. omega arith) ∙ p.left x (omega arith);
+        }
+
+    module _ (n : ℕ) (legal : mct_legal n g ≡ true) (all : length ys ≤ i) (many : 2 ^ n ≤ length xs) (below : (x : ℕ) → x < 2 ^ n → get_or xs x 0 < 2 ^ n) where
+      pub all_passed : Same n (λ x. get_or ys x 0) (λ x. mct.act n g (get_or xs x 0))
+      all_passed x h = p.made x (omega (arith, p.long)) ∙ sym (act_is n g legal (get_or xs x 0) (below x h))
+
+      pub passed_below : (x : ℕ) → x < 2 ^ n → get_or ys x 0 < 2 ^ n
+      passed_below x h = subst (λ (v : ℕ). v < 2 ^ n) (sym (all_passed x h)) (mct_lawful.keeps n g (get_or xs x 0) (below x h))
 
 pub words_few : (n : ℕ) → n ≤ 8 → 2 ^ n ≤ 256
 words_few n h = pow_mono h

@@ -1,5 +1,5 @@
 -- The first number at which a cost is least.
-use Rattle.std.proofs.Common.{◌≡◌, ℕ, zero, suc, ◌+◌, ◌-◌, ◌<◌, ◌≤◌, cond, ltb, sym, refl, ◌∙◌, subst, subst₂, ⊎_elim, le_refl, arith}
+use Rattle.std.proofs.Common.{◌≡◌, ℕ, zero, suc, ◌+◌, ◌-◌, ◌<◌, ◌≤◌, cond, ltb, sym, refl, ap, ◌∙◌, subst, subst₂, ⊎_elim, le_refl, arith}
 use Rattle.std.proofs.lemmas.Bool.{cond_both, ltb-true, ltb-false, cases_lt, cases_order}
 use Rattle.mapping.specs.Least.{Least, better, least}
 
@@ -88,62 +88,54 @@ least_first t i m j l =
     ap_le : (u : ℕ → ℕ) (a b : ℕ) → a ≡ b → u a ≤ u b
     ap_le u a b e = subst (λ x. u a ≤ u x) e (le_refl (u a))
 
--- ---- a search from i on that has come to w, with the best number b and its cost l so far; no cost is above top
+-- ---- a search from i on that has come to w, with the best number b and its cost l so far
 
-pub record Looking (t : ℕ → ℕ) (top i w b l : ℕ) : Type 0 where
-  pub first : w ≡ i → top < l
-  pub found : i < w → Least t i w b × (l ≡ t b)
+pub record Looking (t : ℕ → ℕ) (i w b l : ℕ) : Type 0 where
+  pub cost : l ≡ t b
+  pub first : w ≡ i → b ≡ i
+  pub found : i < w → Least t i w b
   pub none : (k : ℕ) → i ≤ k → k < w → 0 < t k
 
-pub look_start : (t : ℕ → ℕ) (top i b l : ℕ) → top < l → Looking t top i i b l
-look_start t top i b l h = record { first = λ _. h; found = λ q. absurd (omega arith); none = λ k p q. absurd (omega arith) }
+pub look_start : (t : ℕ → ℕ) (i l : ℕ) → l ≡ t i → Looking t i i i l
+look_start t i l e = record { cost = e; first = λ _. refl; found = λ q. absurd (omega arith); none = λ k p q. absurd (omega arith) }
 
 none_more : (t : ℕ → ℕ) (i w : ℕ) → ((k : ℕ) → i ≤ k → k < w → 0 < t k) → 0 < t w → (k : ℕ) → i ≤ k → k < w + 1 → 0 < t k
 none_more t i w h here k p q = ⊎_elim (λ r. h k p r) (λ r. let e : w ≡ k = omega arith in subst (λ x. 0 < t x) e here) (cases_lt k w)
 
-pub look_new : (t : ℕ → ℕ) (top i w b l : ℕ) → Looking t top i w b l → i ≤ w → 0 < t w → t w < l → Looking t top i (w + 1) w (t w)
-look_new t top i w b l s h pos less =
+-- the cost r at w is smaller, or not
+pub look_better : (t : ℕ → ℕ) (i w b l r b' l' : ℕ) → Looking t i w b l → i ≤ w → r ≡ t w → (r ≡ 0 → ⊥) → r < l → b' ≡ w → l' ≡ r → Looking t i (w + 1) b' l'
+look_better t i w b l r b' l' s h e pos less eb el =
     record {
-      first = λ e. absurd (omega arith);
+      cost = el ∙ e ∙ ap t (sym eb);
+      first = λ q. absurd (omega arith);
       found = λ _.
-          ⊎_elim
-          (λ q. let f = s.found q in (least_new t i w b f.0 (omega (arith, f.1)), refl))
-          (λ q. let e : i ≡ w = omega arith in (subst (λ x. Least t i (x + 1) x) e (least_start t i), refl))
-          (cases_lt i w);
-      none = none_more t i w s.none pos;
+          subst (Least t i (w + 1)) (sym eb)
+          (⊎_elim
+          (λ q. least_new t i w b (s.found q) (omega (arith, s.cost)))
+          (λ q. absurd (let f : w ≡ i = omega arith in let same : t b ≡ t w = ap t (s.first f ∙ sym f) in omega (arith, s.cost)))
+          (cases_lt i w));
+      none = none_more t i w s.none (omega arith);
     }
 
-pub look_old : (t : ℕ → ℕ) (top i w b l : ℕ) → Looking t top i w b l → i ≤ w → 0 < t w → t w ≤ top → l ≤ t w → Looking t top i (w + 1) b l
-look_old t top i w b l s h pos small more =
+pub look_worse : (t : ℕ → ℕ) (i w b l r b' l' : ℕ) → Looking t i w b l → i ≤ w → r ≡ t w → (r ≡ 0 → ⊥) → l ≤ r → b' ≡ b → l' ≡ l → Looking t i (w + 1) b' l'
+look_worse t i w b l r b' l' s h e pos more eb el =
     record {
-      first = λ e. absurd (omega arith);
+      cost = el ∙ s.cost ∙ ap t (sym eb);
+      first = λ q. absurd (omega arith);
       found = λ _.
-          ⊎_elim
-          (λ q. let f = s.found q in (least_old t i w b f.0 (omega (arith, f.1)), f.1))
-          (λ q. absurd (let e : w ≡ i = omega arith in omega (arith, s.first e)))
-          (cases_lt i w);
-      none = none_more t i w s.none pos;
+          subst (Least t i (w + 1)) (sym eb)
+          (⊎_elim
+          (λ q. least_old t i w b (s.found q) (omega (arith, s.cost)))
+          (λ q. let f : w ≡ i = omega arith in subst₂ (λ x y. Least t i (x + 1) y) (sym f) (sym (s.first f)) (least_start t i))
+          (cases_lt i w));
+      none = none_more t i w s.none (omega arith);
     }
 
 -- the search is over, or has come to a cost of 0
-pub look_all : (t : ℕ → ℕ) (top i m b l : ℕ) → Looking t top i m b l → i < m → b ≡ least t i m
-look_all t top i m b l s h = least_one t i m b (least t i m) (s.found h).0 (least_is t i m h)
+pub look_all : (t : ℕ → ℕ) (i m b l : ℕ) → Looking t i m b l → i < m → b ≡ least t i m
+look_all t i m b l s h = least_one t i m b (least t i m) (s.found h) (least_is t i m h)
 
-pub look_zero : (t : ℕ → ℕ) (top i m w b l : ℕ) → Looking t top i w b l → i ≤ w → w < m → t w ≡ 0 → w ≡ least t i m
-look_zero t top i m w b l s h k e =
+pub look_zero : (t : ℕ → ℕ) (i m w b l : ℕ) → Looking t i w b l → i ≤ w → w < m → t w ≡ 0 → w ≡ least t i m
+look_zero t i m w b l s h k e =
     let lt : i < m = omega arith in
     least_one t i m w (least t i m) (least_zero t i m w k e h s.none) (least_is t i m lt)
-
--- the same with what the program holds: the cost r at w, and the best and its cost afterwards
-pub look_better : (t : ℕ → ℕ) (top i w b l r b' l' : ℕ) → Looking t top i w b l → i ≤ w → r ≡ t w → (r ≡ 0 → ⊥) → r < l → b' ≡ w → l' ≡ r → Looking t top i (w + 1) b' l'
-look_better t top i w b l r b' l' s h e pos less eb el =
-    let p : 0 < t w = omega arith in
-    let q : t w < l = omega arith in
-    subst₂ (Looking t top i (w + 1)) (sym eb) (sym (el ∙ e)) (look_new t top i w b l s h p q)
-
-pub look_worse : (t : ℕ → ℕ) (top i w b l r b' l' : ℕ) → Looking t top i w b l → i ≤ w → r ≡ t w → (r ≡ 0 → ⊥) → r ≤ top → l ≤ r → b' ≡ b → l' ≡ l → Looking t top i (w + 1) b' l'
-look_worse t top i w b l r b' l' s h e pos small more eb el =
-    let p : 0 < t w = omega arith in
-    let q : t w ≤ top = omega arith in
-    let m : l ≤ t w = omega arith in
-    subst₂ (Looking t top i (w + 1)) (sym eb) (sym el) (look_old t top i w b l s h p q m)

@@ -9,7 +9,7 @@ use Rattle.gates.specs.declared.end.End.TheVariants.{Input, Output}
 use Rattle.pieces.specs.Meanings.{moved, all_moved}
 use Rattle.pieces.specs.Runs.{gates_legal}
 use Rattle.pieces.proofs.Finding.{moved_append}
-use Rattle.mapping.specs.Drafts.{at_end}
+use Rattle.mapping.specs.Took.{at_end}
 
 -- a word that passes the gates from the last to the first
 abbrev pub back : {G : Type 0} → Kind G → ℕ → List G → ℕ → ℕ

@@ -13,7 +13,7 @@ use Rattle.gates.specs.MctLaws.{mct_lawful}
 use Rattle.pieces.specs.Meanings.{all_moved}
 use Rattle.pieces.specs.Runs.{Local, gates_legal}
 use Rattle.pieces.proofs.Finding.{moved_append, all_moved_same}
-use Rattle.mapping.specs.Drafts.{at_end}
+use Rattle.mapping.specs.Took.{at_end}
 use Rattle.mapping.specs.Least.{Least}
 use Rattle.mapping.specs.Mapping.{mapping, weigh}
 use Rattle.mapping.specs.Rows.{total, choice, row, rows, table_plan}

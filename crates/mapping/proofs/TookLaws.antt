@@ -1,4 +1,4 @@
--- Gates put into a copy and into the book, one after the other.
+-- Gates put into a table and into the book, one after the other.
 use Rattle.std.proofs.Common.{◌≡◌, ℕ, zero, suc, ◌+◌, ◌-◌, ◌<◌, ◌≤◌, Bool, true, false, cond, List, [], ◌∷◌, ◌++◌, map, length, sym, refl, ap, ◌∙◌, subst, ap₂, append-nil, add-zero, add-one, arith, length-append}
 use mathlib.Core.List.{map-append}
 use lib.ListN.{length-map}
@@ -10,32 +10,30 @@ use Rattle.gates.specs.declared.mct.Mct.{Mct}
 use Rattle.gates.specs.MctLaws.{mct_lawful}
 use Rattle.books.specs.declared.Book.{Book}
 use Rattle.books.specs.Ends.{held}
-use Rattle.books.specs.Books.{ends, free, Kept}
-use Rattle.books.specs.Places.{Pushed}
+use Rattle.books.specs.Books.{ends, free}
 use Rattle.books.proofs.KeptLaws.{kept_none, kept_more}
-use Rattle.pieces.specs.Meanings.{Moved, all_moved}
+use Rattle.pieces.specs.Meanings.{all_moved}
 use Rattle.pieces.specs.Jobs.{Alike, all_found, shown}
 use Rattle.pieces.proofs.Finding.{alike_trans, found_map, found_append, held_found, all_found_alike}
-use Rattle.mapping.specs.Drafts.{draft_meaning, at_end, Took}
+use Rattle.mapping.specs.Took.{at_end, Took}
+use Rattle.mapping.specs.Works.{SameLent}
+use Rattle.mapping.specs.declared.work.Work.{Work}
 use Rattle.mapping.specs.Mapping.{flips}
 use Rattle.mapping.specs.Ones.{lines_from}
-use Rattle.mapping.specs.declared.draft.Draft.{Draft}
+use Rattle.tables.specs.Tables.{table_meaning}
+use Rattle.tables.specs.declared.table.Table.{Table}
 use Rattle.mapping.proofs.GateLaws.{gate}
 
-pub took_none : (d : Draft) (b : Book Mct) → Took d b [] d b
-took_none d b = record { same_lines = refl; found = record { map = λ x h. refl; ends = refl }; kept = kept_none b }
+pub took_none : (t : Table) (b : Book Mct) → Took t b [] t b
+took_none t b = record { same_lines = refl; found = record { map = λ x h. refl; ends = refl }; kept = kept_none b }
 
-pub took_one : (e : End) (g : Mct) (d : Draft) (b : Book Mct) (d' : Draft) (b' : Book Mct)
-    → Moved mct e g (draft_meaning d) (draft_meaning d') → Pushed e g b b' → Kept b b' → Took d b ((e, g) ∷ []) d' b'
-took_one e g d b d' b' m p k = record { same_lines = m.same_lines; found = record { map = m.map; ends = p.ends }; kept = k }
-
-pub took_more : (ps qs : List (End × Mct)) (d : Draft) (b : Book Mct) (d₁ : Draft) (b₁ : Book Mct) (d₂ : Draft) (b₂ : Book Mct)
-    → Took d b ps d₁ b₁ → Took d₁ b₁ qs d₂ b₂ → Took d b (ps ++ qs) d₂ b₂
-took_more ps qs d b d₁ b₁ d₂ b₂ p q =
-    let n = d.lines in
-    let before = shown (draft_meaning d) b in
-    let middle = shown (draft_meaning d₁) b₁ in
-    let after = shown (draft_meaning d₂) b₂ in
+pub took_more : (ps qs : List (End × Mct)) (t : Table) (b : Book Mct) (t₁ : Table) (b₁ : Book Mct) (t₂ : Table) (b₂ : Book Mct)
+    → Took t b ps t₁ b₁ → Took t₁ b₁ qs t₂ b₂ → Took t b (ps ++ qs) t₂ b₂
+took_more ps qs t b t₁ b₁ t₂ b₂ p q =
+    let n = t.lines in
+    let before = shown (table_meaning t) b in
+    let middle = shown (table_meaning t₁) b₁ in
+    let after = shown (table_meaning t₂) b₂ in
     let last : Alike n after (all_found mct n qs middle) = subst (λ (k : ℕ). Alike k after (all_found mct k qs middle)) p.same_lines q.found in
     record {
       same_lines = q.same_lines ∙ p.same_lines;
@@ -45,14 +43,14 @@ took_more ps qs d b d₁ b₁ d₂ b₂ p q =
       kept = kept_more p.kept q.kept;
     }
 
-module _ (ps : List (End × Mct)) (d : Draft) (b : Book Mct) (d' : Draft) (b' : Book Mct) (took : Took d b ps d' b') where
+module _ (ps : List (End × Mct)) (t : Table) (b : Book Mct) (t' : Table) (b' : Book Mct) (took : Took t b ps t' b') where
   pub took_free : free b' ≡ free b - length ps
   took_free =
-      let count : held (ends b') ≡ held (ends b) + length ps = ap held took.found.ends ∙ held_found mct d.lines ps (shown (draft_meaning d) b) in
+      let count : held (ends b') ≡ held (ends b) + length ps = ap held took.found.ends ∙ held_found mct t.lines ps (shown (table_meaning t) b) in
       ap₂ ◌-◌ took.kept.room count ∙ omega arith
 
-  pub took_map : Same d.lines (draft_meaning d').map (all_moved mct d.lines ps (draft_meaning d).map)
-  took_map x h = took.found.map x h ∙ ap (λ (f : ℕ → ℕ). f x) (found_map mct d.lines ps (shown (draft_meaning d) b))
+  pub took_map : Same t.lines (table_meaning t').map (all_moved mct t.lines ps (table_meaning t).map)
+  took_map x h = took.found.map x h ∙ ap (λ (f : ℕ → ℕ). f x) (found_map mct t.lines ps (shown (table_meaning t) b))
 
 -- ---- a row of gates, a line at a time
 
@@ -89,21 +87,21 @@ module _ (e : End) (c w k : ℕ) where
       ap (λ ls. at_end e (map (gate c) ls))
       (lines_more k w ∙ ap (λ b. lines_from k 0 w ++ cond b (k ∷ []) []) h ∙ append-nil (lines_from k 0 w))
 
-  module _ (d : Draft) (b : Book Mct) (d₁ : Draft) (b₁ : Book Mct) (so : Took d b (so_far e c w k) d₁ b₁) where
-    pub took_line : (d₂ : Draft) (b₂ : Book Mct) → has w k ≡ true → Took d₁ b₁ ((e, gate c k) ∷ []) d₂ b₂ → Took d b (so_far e c w (k + 1)) d₂ b₂
-    took_line d₂ b₂ h q =
-        subst (λ ps. Took d b ps d₂ b₂) (sym (line_taken h)) (took_more (so_far e c w k) ((e, gate c k) ∷ []) d b d₁ b₁ d₂ b₂ so q)
+  module _ (t : Table) (b : Book Mct) (t₁ : Table) (b₁ : Book Mct) (so : Took t b (so_far e c w k) t₁ b₁) where
+    pub took_line : (t₂ : Table) (b₂ : Book Mct) → has w k ≡ true → Took t₁ b₁ ((e, gate c k) ∷ []) t₂ b₂ → Took t b (so_far e c w (k + 1)) t₂ b₂
+    took_line t₂ b₂ h q =
+        subst (λ ps. Took t b ps t₂ b₂) (sym (line_taken h)) (took_more (so_far e c w k) ((e, gate c k) ∷ []) t b t₁ b₁ t₂ b₂ so q)
 
-    pub took_no_line : has w k ≡ false → Took d b (so_far e c w (k + 1)) d₁ b₁
-    took_no_line h = subst (λ ps. Took d b ps d₁ b₁) (sym (line_left h)) so
+    pub took_no_line : has w k ≡ false → Took t b (so_far e c w (k + 1)) t₁ b₁
+    took_no_line h = subst (λ ps. Took t b ps t₁ b₁) (sym (line_left h)) so
 
 -- the gates of the lines so far are no more than all
-lines_grow : (k d w : ℕ) → length (lines_from k 0 w) ≤ length (lines_from (k + d) 0 w)
+lines_grow : (k t w : ℕ) → length (lines_from k 0 w) ≤ length (lines_from (k + t) 0 w)
 lines_grow k zero w = let z : k ≡ k + 0 = omega arith in subst (λ (m : ℕ). length (lines_from k 0 w) ≤ length (lines_from m 0 w)) z (omega arith)
-lines_grow k (suc d) w =
-    let z : k + d + 1 ≡ k + suc d = omega arith in
-    let step = ap length (lines_more (k + d) w) ∙ length-append (lines_from (k + d) 0 w) (cond (has w (k + d)) ((k + d) ∷ []) []) in
-    subst (λ (m : ℕ). length (lines_from k 0 w) ≤ length (lines_from m 0 w)) z (omega (arith, lines_grow k d w, step))
+lines_grow k (suc t) w =
+    let z : k + t + 1 ≡ k + suc t = omega arith in
+    let step = ap length (lines_more (k + t) w) ∙ length-append (lines_from (k + t) 0 w) (cond (has w (k + t)) ((k + t) ∷ []) []) in
+    subst (λ (m : ℕ). length (lines_from k 0 w) ≤ length (lines_from m 0 w)) z (omega (arith, lines_grow k t w, step))
 
 so_far_length : (e : End) (c w k : ℕ) → length (so_far e c w k) ≡ length (lines_from k 0 w)
 so_far_length e c w k = length-map (map (gate c) (lines_from k 0 w)) (λ g. (e, g)) ∙ length-map (lines_from k 0 w) (gate c)
@@ -111,13 +109,21 @@ so_far_length e c w k = length-map (map (gate c) (lines_from k 0 w)) (λ g. (e, 
 -- room for all gates of the row leaves room for the next
 pub line_room : (e : End) (c w k : ℕ) → k < 8 → has w k ≡ true → length (so_far e c w k) < length (flips c w)
 line_room e c w k h b =
-    let d = 8 - (k + 1) in
-    let z : k + 1 + d ≡ 8 = omega arith in
+    let t = 8 - (k + 1) in
+    let z : k + 1 + t ≡ 8 = omega arith in
     let grow : length (lines_from (k + 1) 0 w) ≤ length (lines_from 8 0 w) =
-    subst (λ (m : ℕ). length (lines_from (k + 1) 0 w) ≤ length (lines_from m 0 w)) z (lines_grow (k + 1) d w) in
+    subst (λ (m : ℕ). length (lines_from (k + 1) 0 w) ≤ length (lines_from m 0 w)) z (lines_grow (k + 1) t w) in
     let one : length (so_far e c w (k + 1)) ≡ length (so_far e c w k) + 1 = ap length (line_taken e c w k b) ∙ length-append (so_far e c w k) ((e, gate c k) ∷ []) in
     let all : length (flips c w) ≡ length (lines_from 8 0 w) = length-map (lines_from 8 0 w) (gate c) in
     omega (arith, so_far_length e c w (k + 1))
 
 pub at_end_length : (e : End) (gs : List Mct) → length (at_end e gs) ≡ length gs
 at_end_length e gs = length-map gs (λ g. (e, g))
+
+-- ---- the same of what a run works on
+
+pub same_lent : (w : Work) → SameLent w w
+same_lent w = record { table = refl; book = refl }
+
+pub lent_more : (w w' w₂ : Work) → SameLent w w' → SameLent w' w₂ → SameLent w w₂
+lent_more w w' w₂ p q = record { table = q.table ∙ p.table; book = q.book ∙ p.book }

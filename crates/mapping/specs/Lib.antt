@@ -4,4 +4,5 @@ pub mod Least
 pub mod Rows
 pub mod Laws
 pub mod Example
-pub mod Drafts
+pub mod Took
+pub mod Works

@@ -1,9 +1,10 @@
 // Mapping the rows of a table: the run of a table that takes MCT gates.
 #![tactic(auto)]
 
-mod draft;
+mod put;
 mod row;
 mod rows;
 pub mod rule;
 pub mod theorems;
 mod word;
+mod work;

@@ -2,40 +2,42 @@
 ghost use Rattle.std.specs.Prelude.{◌≡◌, ◌+◌, ◌-◌, ◌^◌, ◌<◌, ◌≤◌, nat_lt};
 ghost use Rattle.words.specs.Maps.{Apart, Identity};
 ghost use Rattle.books.specs.Books.{free};
-ghost use Rattle.mapping.specs.Drafts.{Took, draft_meaning};
+ghost use Rattle.tables.specs.Tables.{table_meaning};
 ghost use Rattle.mapping.specs.Rows.{total, table_plan};
+ghost use Rattle.mapping.specs.Works.{Worked};
 
-use crate::draft::Draft;
-use crate::row::map_word;
+use crate::put::word_count;
 use crate::word::mapping_len;
-use books::Book;
+use crate::work::Work;
 use gates::end::End;
-use gates::mct::Mct;
+use tables::table::Table;
 
-// Maps every row but the last, each by the word with the smallest total.
-pub(crate) fn map_rows(draft: &mut Draft, book: &mut Book<Mct>)
-    requires apart { Apart (2 ^ draft.old.lines) (draft_meaning draft.old).map }
-    requires room { table_plan.budget draft.old.lines ≤ free book.old }
-    ensures took { Took draft.old book.old (table_plan.gates draft.old.lines (draft_meaning draft.old).map) draft.new book.new }
-    ensures identity { Identity draft.old.lines (draft_meaning draft.new).map }
-{
-    let count = draft.count();
-    'rows: for row in 0..but_last(count) {
-        let mut best = row;
-        let mut least = u32::MAX;
-        for word in row..count {
-            let total = total_of(draft, row, word);
-            if total == 0 {
-                continue 'rows;
+impl Work<'_, '_> {
+    // Maps every row but the last, each by the word with the smallest total.
+    pub(crate) fn map_rows(&mut self)
+        requires apart { Apart (2 ^ self.old.table.now.lines) (table_meaning self.old.table.now).map }
+        requires room { table_plan.budget self.old.table.now.lines ≤ free self.old.book.now }
+        ensures worked { Worked self.old (table_plan.gates self.old.table.now.lines (table_meaning self.old.table.now).map) self.new }
+        ensures identity { Identity self.old.table.now.lines (table_meaning self.new.table.now).map }
+    {
+        let count = word_count(self.table);
+        'rows: for row in 0..but_last(count) {
+            let mut best = row;
+            let mut least = total_of(self.table, row, row);
+            for word in row..count {
+                let total = total_of(self.table, row, word);
+                if total == 0 {
+                    continue 'rows;
+                }
+                if is_better(total, least) {
+                    least = total;
+                    best = word;
+                }
             }
-            if is_better(total, least) {
-                least = total;
-                best = word;
-            }
+            let image = self.table.images[best];
+            self.map_word(End::Input, best as u8, row as u8);
+            self.map_word(End::Output, image, row as u8);
         }
-        let image = draft.at(best);
-        map_word(draft, book, End::Input, best as u8, row as u8);
-        map_word(draft, book, End::Output, image, row as u8);
     }
 }
 
@@ -48,13 +50,13 @@ fn but_last(count: usize) -> usize
 }
 
 // How many gates map a word and its image to a row.
-fn total_of(draft: &Draft, row: usize, word: usize) -> u32
-    requires row { row < 2 ^ draft.now.lines }
-    requires word { word < 2 ^ draft.now.lines }
-    ensures is { result ≡ total (draft_meaning draft.now).map row word }
+fn total_of(table: &Table, row: usize, word: usize) -> u32
+    requires row { row < 2 ^ table.now.lines }
+    requires word { word < 2 ^ table.now.lines }
+    ensures is { result ≡ total (table_meaning table.now).map row word }
     ensures small { result ≤ 16 }
 {
-    mapping_len(word as u8, row as u8) + mapping_len(draft.at(word), row as u8)
+    mapping_len(word as u8, row as u8) + mapping_len(table.images[word], row as u8)
 }
 
 // Whether a total is below the least so far. On equal totals the word found first stays.

@@ -3,14 +3,6 @@ ghost use Rattle.std.specs.Prelude.{◌≡◌, ◌^◌, ◌<◌, ◌≤◌, ◌&
 ghost use Rattle.mapping.specs.Mapping.{mapping, shrink};
 ghost use Rattle.mapping.specs.Ones.{outside, drop_lowest};
 
-// The word in which a line alone is 1.
-pub(crate) fn unit(line: u8) -> u8
-    requires { line < 8 }
-    ensures { result ≡ 2 ^ line }
-{
-    1 << line
-}
-
 // Whether a word has all controls.
 fn has_all(word: u8, controls: u8) -> bool
     ensures { result ≡ (bit_and word controls == controls) }
@@ -18,7 +10,7 @@ fn has_all(word: u8, controls: u8) -> bool
     word & controls == controls
 }
 
-// The word with these bits flipped, if it has all controls.
+// The word with these bits flipped, if it has all controls. In bytes, so that a loop over many words is fast.
 pub(crate) fn flipped(word: u8, controls: u8, bits: u8) -> u8
     ensures { result ≡ (if nat_eq (bit_and word controls) controls then bit_xor word bits else word) }
 {

@@ -1,3 +1,3 @@
 pub mod Counting
 pub mod Images
-pub mod Sizes
+pub mod Clashes

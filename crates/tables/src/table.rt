@@ -5,11 +5,12 @@ mod images;
 mod make;
 mod piece;
 
-// Only the first 2^lines images count.
+// Only the first 2^lines images count: an array, and no `ArrayVec`, since a table is `Copy`. The fields are open to a crate above that has a faster way to put its gates in: that
+// the images stay words is proved there.
 #[derive(Clone, Copy)]
 pub struct Table {
-    lines: u8,
-    images: [u8; 256],
+    pub lines: u8,
+    pub images: [u8; 256],
     ghost some: { 1 ≤ lines },
     ghost few: { lines ≤ 8 },
     ghost full: { length images ≡ 256 },

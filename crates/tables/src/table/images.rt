@@ -1,5 +1,5 @@
-// How a table reads and writes its images, and what a gate makes of them.
-ghost use Rattle.std.specs.Prelude.{◌≡◌, ℕ, ◌^◌, ◌<◌, ◌≤◌, ◌≢◌};
+// How a table reads its images, and what a gate makes of them.
+ghost use Rattle.std.specs.Prelude.{◌≡◌, ◌^◌, ◌<◌, ◌≤◌};
 ghost use Rattle.tables.specs.Tables.{images_of, table_meaning};
 
 use super::Table;
@@ -14,37 +14,20 @@ pub(super) fn word_count(lines: u8) -> usize
 }
 
 impl Table {
-    pub(super) fn count(&self) -> usize
-        ensures { result ≡ 2 ^ self.now.lines }
-    {
-        word_count(self.lines)
-    }
-
     // The images of the words, that of word 0 first.
     pub fn images(&self) -> &[u8]
         ensures { result.now ≡ images_of self.now }
     {
-        &self.images[0..self.count()]
+        &self.images[..word_count(self.lines)]
     }
 
-    // The image of a word.
+    // The image of a word. That a number is a word of this table is a fact of both, so that each function below asks it.
     pub(super) fn at(&self, word: usize) -> u8
         requires { word < 2 ^ self.now.lines }
         ensures is { result ≡ (table_meaning self.now).map word }
         ensures below { result < 2 ^ self.now.lines }
     {
         self.images[word]
-    }
-
-    // Gives a word another image.
-    pub(super) fn put(&mut self, word: usize, image: u8)
-        requires word { word < 2 ^ self.old.lines }
-        requires image { image < 2 ^ self.old.lines }
-        ensures lines { self.new.lines ≡ self.old.lines }
-        ensures here { (table_meaning self.new).map word ≡ image }
-        ensures others { (x : ℕ) → (x ≢ word) → (table_meaning self.new).map x ≡ (table_meaning self.old).map x }
-    {
-        self.images[word] = image;
     }
 
     // The image of a word that passes a gate first.

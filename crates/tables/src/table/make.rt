@@ -18,7 +18,7 @@ impl Table {
         }
         match first_wide(lines, images) {
             Some(row) => Err(Refusal::WideRow { row }),
-            None => Ok(Table::holding(lines, images)),
+            None => Ok(Table::by(lines, |word| images[word] as u8)),
         }
     }
 
@@ -26,52 +26,26 @@ impl Table {
     pub fn identity(lines: u8) -> Result<Table, Refusal>
         ensures { Made lines (counting 0 (2 ^ lines)) result }
     {
-        if lines < 1 || lines > 8 {
+        if !(1..=8).contains(&lines) {
             return Err(Refusal::WrongSize);
         }
-        Ok(Table::identity_on(lines))
+        Ok(Table::by(lines, |word| word as u8))
     }
 
-    // The table of images that are words, one for each word.
-    fn holding(lines: u8, images: &[u64]) -> Table
+    // The table in which a function tells the image of each word.
+    pub(super) fn by<F: Fn(usize) -> u8>(lines: u8, image: F) -> Table
         requires some { 1 ≤ lines }
         requires few { lines ≤ 8 }
-        requires count { length images.now ≡ 2 ^ lines }
-        requires below { (x : ℕ) → x < length images.now → slice_index images.now x < 2 ^ lines }
+        requires callable { (x : ℕ) → x < 2 ^ lines → F.pre image x }
+        requires words { (x y : ℕ) → x < 2 ^ lines → F.post image x y → y < 2 ^ lines }
         ensures lines { result.lines ≡ lines }
-        ensures images { Same lines (table_meaning result).map (λ x. slice_index images.now x) }
+        ensures images { (x : ℕ) → x < 2 ^ lines → F.post image x ((table_meaning result).map x) }
     {
-        let mut table = Table::zeros(lines);
-        for (word, image) in images.iter().enumerate() {
-            table.put(word, *image as u8);
+        let mut images = [0; 256];
+        for (word, place) in images[..word_count(lines)].iter_mut().enumerate() {
+            *place = image(word);
         }
-        table
-    }
-
-    // The same table, on lines that a table may have.
-    fn identity_on(lines: u8) -> Table
-        requires some { 1 ≤ lines }
-        requires few { lines ≤ 8 }
-        ensures lines { result.lines ≡ lines }
-        ensures images { Identity lines (table_meaning result).map }
-    {
-        let mut table = Table::zeros(lines);
-        for word in 0..table.count() {
-            table.put(word, word as u8);
-        }
-        table
-    }
-
-    // The table in which every image is 0.
-    fn zeros(lines: u8) -> Table
-        requires some { 1 ≤ lines }
-        requires few { lines ≤ 8 }
-        ensures { result.lines ≡ lines }
-    {
-        Table {
-            lines,
-            images: [0; 256],
-        }
+        Table { lines, images }
     }
 }
 
@@ -79,5 +53,5 @@ impl Table {
 fn is_size(lines: u8, count: usize) -> bool
     ensures { result ≡ (nat_le 1 lines && (nat_le lines 8 && count == 2 ^ lines)) }
 {
-    1 <= lines && lines <= 8 && count == word_count(lines)
+    (1..=8).contains(&lines) && count == word_count(lines)
 }

@@ -1,5 +1,5 @@
 // A table as a piece that takes gates of any kind.
-ghost use Rattle.std.specs.Prelude.{◌≡◌, ℕ, ◌^◌, ◌<◌, Decides, MatchOption, ◌≢◌};
+ghost use Rattle.std.specs.Prelude.{◌≡◌, ◌<◌, length, Decides, EachIndex, MatchOption, ◌≢◌, slice_index};
 ghost use Rattle.words.specs.Maps.{Identity, Clash};
 ghost use Rattle.gates.specs.Refusals.{image};
 ghost use Rattle.tables.specs.Tables.{table_meaning};
@@ -10,6 +10,7 @@ use gates::refusal::Refusal;
 use pieces::piece::Piece;
 use words::is_word;
 
+// The questions of the interface stand here too: through it alone a call would have to name a gate kind that does not matter.
 impl Table {
     pub fn lines(&self) -> u8
         ensures { result ≡ self.now.lines }
@@ -30,34 +31,21 @@ impl Table {
     pub fn is_identity(&self) -> bool
         ensures { Decides result (Identity self.now.lines (table_meaning self.now).map) }
     {
-        for word in 0..self.count() {
-            if self.at(word) as usize != word {
-                return false;
-            }
-        }
-        true
+        self.images()
+            .iter()
+            .enumerate()
+            .all(|(word, image)| *image as usize == word)
     }
 
     // The smallest word whose image a smaller word shares, after that smaller word.
     pub fn clash(&self) -> Option<(u64, u64)>
         ensures { Clash self.now.lines (table_meaning self.now).map result }
     {
-        for b in 0..self.count() {
-            if let Some(a) = self.shared_below(b) {
+        let mut words = [None; 256];
+        for (b, image) in self.images().iter().enumerate() {
+            // The word so far that has this image.
+            if let Some(a) = words[*image as usize].replace(b as u8) {
                 return Some((a as u64, b as u64));
-            }
-        }
-        None
-    }
-
-    // A smaller word that shares the image of b.
-    fn shared_below(&self, b: usize) -> Option<usize>
-        requires { b < 2 ^ self.now.lines }
-        ensures { MatchOption result ((a : ℕ) → a < b → (table_meaning self.now).map a ≢ (table_meaning self.now).map b) (λ a. (a < b) × ((table_meaning self.now).map a ≡ (table_meaning self.now).map b)) }
-    {
-        for a in 0..b {
-            if self.at(a) == self.at(b) {
-                return Some(a);
             }
         }
         None
@@ -83,25 +71,16 @@ impl<G: Gate> Piece<G> for Table {
         self.clash()
     }
 
+    // The two ends differ in the function of words alone, which `by` takes.
     fn input(&mut self, gate: G) -> Result<(), Refusal> {
-        if !gate.is_legal(self.lines) {
-            return Err(Refusal::IllegalGate);
-        }
-        let old = *self;
-        for word in 0..old.count() {
-            self.put(word, old.input_image(gate, word));
-        }
+        gate.check(self.lines)?;
+        *self = Table::by(self.lines, |word| self.input_image(gate, word));
         Ok(())
     }
 
     fn output(&mut self, gate: G) -> Result<(), Refusal> {
-        if !gate.is_legal(self.lines) {
-            return Err(Refusal::IllegalGate);
-        }
-        let old = *self;
-        for word in 0..old.count() {
-            self.put(word, old.output_image(gate, word));
-        }
+        gate.check(self.lines)?;
+        *self = Table::by(self.lines, |word| self.output_image(gate, word));
         Ok(())
     }
 }
