@@ -1,5 +1,5 @@
 -- The addition of a line in one layout.
-use Rattle.std.proofs.Common.{◌≡◌, ℕ, ◌*◌, ◌/◌, ◌%◌, ◌^◌, ◌<◌, ◌≤◌, cond, eqb, ◌≢◌, List, length, get_or, take, set, sym, ap, ◌∙◌, ap₂, zero-mul, arith, length-set}
+use Rattle.std.proofs.Common.{◌≡◌, ℕ, ◌+◌, ◌*◌, ◌/◌, ◌%◌, ◌^◌, ◌<◌, ◌≤◌, cond, eqb, ◌≢◌, List, length, get_or, take, set, sym, ap, ◌∙◌, ap₂, zero-mul, arith, length-set}
 use mathlib.Core.HLevel.{is_prop→PathP}
 use lib.Bits.{bit_xor, bit_and, and_mask, xor_lt, xor_assoc, xor_self, xor_zero_r}
 use lib.Count.{ones, ones-le}
@@ -14,8 +14,9 @@ use Rattle.words.proofs.Bits.{bit_lt}
 use Rattle.words.proofs.Parities.{digit_case}
 use Rattle.matrices.specs.Matrices.{add_row, add_column}
 use Rattle.matrices.proofs.Held.{take_set_within}
+use Rattle.elimination.specs.declared.addition.Addition.{Addition}
 use Rattle.elimination.specs.declared.half.Half.{Half}
-use Rattle.elimination.specs.Halves.{row_added, column_added, Added, off}
+use Rattle.elimination.specs.Halves.{row_added, column_added, Added, off, weight_of}
 
 -- the program's count of a word's differences
 pub off_is : (words : List ℕ) (i : ℕ) → i < 64 → ones (bit_xor (get_or words i 0) ((1 * 2 ^ i) % 2 ^ 64)) ≡ off words i
@@ -23,6 +24,15 @@ off_is words i h = ap (λ (x : ℕ). ones (bit_xor (get_or words i 0) x)) (one_s
 
 pub off_few : (words : List ℕ) (i : ℕ) → i < 64 → get_or words i 0 < 2 ^ 64 → off words i ≤ 64
 off_few words i h fits = ones-le 64 (bit_xor (get_or words i 0) (2 ^ i)) (xor_lt 64 (get_or words i 0) (2 ^ i) fits (pow-lt h))
+
+-- the program's weight of two words
+pub weighed : (a : Addition) (h : Half) → get_or h.first a.to 0 < 2 ^ 64 → get_or h.second a.from 0 < 2 ^ 64
+    → let w = ones (bit_xor (get_or h.first a.to 0) ((1 * 2 ^ a.to) % 2 ^ 64)) + ones (bit_xor (get_or h.second a.from 0) ((1 * 2 ^ a.from) % 2 ^ 64)) in
+    (w ≡ weight_of a h) × (w ≤ 128)
+weighed a h x y =
+    let p = off_is h.first a.to a.to_line in
+    let q = off_is h.second a.from a.from_line in
+    (ap₂ (λ (j k : ℕ). j + k) p q, omega (arith, p, q, off_few h.first a.to a.to_line x, off_few h.second a.from a.from_line y))
 
 -- a line added twice
 pub added_twice : (m : List ℕ) (c t : ℕ) → t < length m → c ≢ t → row_added c t (row_added c t m) ≡ m
@@ -45,11 +55,11 @@ same_half a b p q = λ i. record {
 }
 
 -- a trial taken back
-pub taken_back : (from to : ℕ) (h h₁ h₂ : Half) → from < 64 → to < 64 → from ≢ to → Added from to h h₁ → Added from to h₁ h₂ → h₂ ≡ h
-taken_back from to h h₁ h₂ hf ht ne a b =
+pub taken_back : (a : Addition) (h h₁ h₂ : Half) → Added a h h₁ → Added a h₁ h₂ → h₂ ≡ h
+taken_back a h h₁ h₂ there back =
     same_half h₂ h
-    (b.first ∙ ap (row_added from to) a.first ∙ added_twice h.first from to (omega (arith, h.full)) ne)
-    (b.second ∙ ap (row_added to from) a.second ∙ added_twice h.second to from (omega (arith, h.filled)) (λ e. ne (sym e)))
+    (back.first ∙ ap (row_added a.from a.to) there.first ∙ added_twice h.first a.from a.to (omega arith) a.apart)
+    (back.second ∙ ap (row_added a.to a.from) there.second ∙ added_twice h.second a.to a.from (omega arith) (λ e. a.apart (sym e)))
 
 -- the program's test of a bit, and its flip
 pub has_test : (x k : ℕ) → eqb (bit_and (x / 2 ^ k) 1) 1 ≡ has x k

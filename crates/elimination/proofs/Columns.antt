@@ -1,21 +1,17 @@
 -- Words read across, a bit at a time.
-use Rattle.std.proofs.Common.{◌≡◌, ℕ, ◌+◌, ◌*◌, ◌/◌, ◌%◌, ◌^◌, ◌<◌, ◌≤◌, Bool, false, ◌&&◌, eqb, ◌≢◌, List, length, get_or, take, set, sym, refl, ap, ◌∙◌, subst, ap₂, mod-lt, zero-mul, add-one, arith, pow_pos, pow_mono, below_more}
+use Rattle.std.proofs.Common.{◌≡◌, ℕ, ◌+◌, ◌*◌, ◌/◌, ◌%◌, ◌^◌, ◌<◌, ◌≤◌, Bool, false, ◌&&◌, eqb, ◌≢◌, List, get_or, sym, refl, ap, ◌∙◌, subst, ap₂, mod-lt, zero-mul, add-one, arith, pow_pos, pow_mono, below_more}
 use mathlib.Core.Bool.{and-true, and-false}
 use lib.Bits.{bit_xor, bit_and, xor_lt, and_mask}
 use lib.Pow.{pow-lt}
 use lib.Count.{ones}
 use Rattle.std.proofs.lemmas.Nat.{one_shl}
-use Rattle.std.proofs.lemmas.List.{get_or-take, get_or-set_same, get_or-set_other}
 use Rattle.std.proofs.lemmas.Bool.{eq-eqb, ne_eqb}
 use Rattle.words.specs.Words.{has}
 use Rattle.words.proofs.Bits.{bit_above, has_xor}
 use Rattle.words.proofs.Parities.{digit_case}
-use Rattle.clearing.specs.Pairs.{Inverses, cost}
 use mathlib.Core.Bool.{xor}
 use Rattle.clearing.proofs.Words.{has_power, has_none, xor_false, false_xor}
-use Rattle.elimination.specs.declared.pair.Pair.{Pair}
 use Rattle.elimination.specs.Halves.{off}
-use Rattle.elimination.specs.Layouts.{both, Across, Below, Sound, state_of}
 use Rattle.elimination.proofs.Additions.{has_test, off_is, off_few}
 use Rattle.elimination.proofs.Sums.{total}
 
@@ -59,13 +55,6 @@ read_more words j i w hi h =
 abbrev pub Reads : ℕ → List ℕ → ℕ → List ℕ → Type 0
 Reads n words j columns = (k : ℕ) → k < j → Read words k n (get_or columns k 0)
 
-pub reads_more : (n : ℕ) (words : List ℕ) (j : ℕ) (columns : List ℕ) (w : ℕ) → j < length columns → Reads n words j columns → Read words j n w
-    → Reads n words (j + 1) (set columns j w)
-reads_more n words j columns w lt h r =
-    below_more (λ (k : ℕ). Read words k n (get_or (set columns j w) k 0)) j
-    (λ k hk. let ne : k ≢ j = omega arith in subst (Read words k n) (sym (get_or-set_other columns j k w 0 ne)) (h k hk))
-    (subst (Read words j n) (sym (get_or-set_same columns j w 0 lt)) r)
-
 -- the count of the first i words
 pub counted_more : (words : List ℕ) (i c : ℕ) → i < 64 → get_or words i 0 < 2 ^ 64 → (c ≡ total i (off words)) × (c ≤ 64 * i)
     → (c + ones (bit_xor (get_or words i 0) ((1 * 2 ^ i) % 2 ^ 64)) ≡ total (i + 1) (off words)) × (c + ones (bit_xor (get_or words i 0) ((1 * 2 ^ i) % 2 ^ 64)) ≤ 64 * (i + 1))
@@ -78,31 +67,3 @@ counted_more words i c hi fits h = (
 pub counted_none : (words : List ℕ) → 0 ≡ total 0 (off words)
 unfolding total
 counted_none words = refl
-
--- ---- a pair from rows
-
-pub new_sound : (p : Pair) (r v c c' : List ℕ) → p.lines ≤ 64 → p.rows.first ≡ r → p.rows.second ≡ c' → p.columns.first ≡ c → p.columns.second ≡ v
-    → Inverses p.lines (both (take p.lines r) (take p.lines v)) → Across p.lines r c → Below p.lines c → Across p.lines v c' → Below p.lines c'
-    → p.cost ≡ cost (both (take p.lines r) (take p.lines v))
-    → Sound p × (state_of p ≡ both (take p.lines r) (take p.lines v))
-new_sound p r v c c' few e₁ e₂ e₃ e₄ inv a b a' b' k =
-    let n = p.lines in
-    let st : state_of p ≡ both (take p.lines r) (take p.lines v) = λ i. both (take p.lines (e₁ i)) (take p.lines (e₄ i)) in (
-      record {
-        few = few;
-        inverses = subst (Inverses n) (sym st) inv;
-        layout = record {
-          across = λ i j hi hj. ap (λ (xs : List ℕ). has (get_or xs i 0) j) e₁ ∙ a i j hi hj ∙ sym (ap (λ (xs : List ℕ). has (get_or xs j 0) i) e₃);
-          across' = λ i j hi hj. ap (λ (xs : List ℕ). has (get_or xs i 0) j) e₄ ∙ a' i j hi hj ∙ sym (ap (λ (xs : List ℕ). has (get_or xs j 0) i) e₂);
-          small_rows = subst (Below n) (sym e₁) (small r inv.square.small);
-          small_columns = subst (Below n) (sym e₃) b;
-          small_rows' = subst (Below n) (sym e₄) (small v inv.square'.small);
-          small_columns' = subst (Below n) (sym e₂) b';
-        };
-        counted = k ∙ ap cost (sym st);
-      },
-      st,
-    )
-  where
-    small : (xs : List ℕ) → ((i : ℕ) → i < p.lines → get_or (take p.lines xs) i 0 < 2 ^ p.lines) → Below p.lines xs
-    small xs h i hi = subst (λ (w : ℕ). w < 2 ^ p.lines) (get_or-take p.lines xs i 0 hi) (h i hi)

@@ -1,5 +1,5 @@
 -- The cost and the gains of a matrix, told from its pair.
-use Rattle.std.proofs.Common.{◌≡◌, ℕ, ◌+◌, ◌*◌, ◌^◌, ◌<◌, ◌≤◌, true, List, length, get_or, pos, ◌-ℤ◌, Some, None, Ok, Err, Result, sym, ap, ◌∙◌, arith}
+use Rattle.std.proofs.Common.{◌≡◌, ℕ, ◌+◌, ◌*◌, ◌^◌, ◌<◌, ◌≤◌, true, List, length, get_or, pos, ◌-ℤ◌, Some, None, Ok, Err, Result, sym, ap, ◌∙◌, arith, Bool, false, refl}
 use lib.Bits.{bit_xor, xor_lt}
 use lib.Count.{ones-le}
 use lib.Pow.{pow-lt}
@@ -8,7 +8,9 @@ use Rattle.gates.specs.Cnots.{cnot}
 use Rattle.gates.specs.declared.cnot.Cnot.{Cnot}
 use Rattle.gates.specs.declared.end.End.{End}
 use Rattle.gates.specs.declared.end.End.TheVariants.{Input, Output}
+use Rattle.gates.specs.Refusals.{answer, unless_legal}
 use Rattle.gates.specs.declared.refusal.Refusal.{Refusal}
+use Rattle.gates.specs.declared.refusal.Refusal.TheVariants.{IllegalGate}
 use Rattle.gates.specs.CnotLaws.{legal_says}
 use Rattle.pieces.specs.Meanings.{moved}
 use Rattle.matrices.specs.Matrices.{image}
@@ -23,10 +25,21 @@ use Rattle.clearing.proofs.Squares.{placed_moves}
 use Rattle.elimination.specs.declared.pair.Pair.{Pair}
 use Rattle.elimination.specs.Costs.{map_cost, UnlessClash, Between}
 use Rattle.elimination.specs.Halves.{row_added, off, weigh}
-use Rattle.elimination.specs.Layouts.{Below, Sound, state_of, Paired}
+use Rattle.elimination.specs.Layouts.{Below}
+use Rattle.elimination.specs.States.{half_at, state_of, Paired}
 use Rattle.elimination.proofs.Layouts.{below_added}
 use Rattle.elimination.proofs.RunLaws.{beside, beside_is, beside_inverses, apart}
-use Rattle.elimination.proofs.States.{half_at, cost_after_is}
+use Rattle.elimination.proofs.States.{cost_after_is}
+
+-- ---- what the check of a gate says
+
+pub checked_ok : (legal : Bool) (x : Unit {0}) → Ok x ≡ answer (unless_legal legal None) → legal ≡ true
+checked_ok true x h = refl
+checked_ok false x h = cc
+
+pub checked_err : (legal : Bool) (why : Refusal) → Err why ≡ answer (unless_legal legal None) → (legal ≡ false) × (why ≡ IllegalGate)
+checked_err true why h = cc
+checked_err false why h = (refl, cc)
 
 -- ---- told unless two words share an image
 
@@ -62,33 +75,33 @@ weigh_few n xs ys a b ha hb sx sy = omega (arith, off_few n xs b hb sx, off_few 
 between : (n x y : ℕ) → y ≤ x + 2 * n → x ≤ y + 2 * n → Between n (pos x -ℤ pos y)
 between n x y h k = (omega (arith, ints), omega (arith, ints))
 
-added_between : (p : Pair) → Sound p → (e : End) (a b : ℕ) → a < p.lines → b < p.lines
+added_between : (p : Pair) (e : End) (a b : ℕ) → a < p.lines → b < p.lines
     → Between p.lines (pos (cost (state_of p)) -ℤ pos (cost (pairs.place (adding e a b) (state_of p))))
-added_between p s e a b ha hb =
+added_between p e a b ha hb =
     let n = p.lines in
     let x : weigh a b (half_at e p).first (half_at e p).second ≤ 2 * p.lines = weigh_few n _ _ a b ha hb (firsts e) (seconds e) in
     let y : weigh a b (row_added a b (half_at e p).first) (row_added b a (half_at e p).second) ≤ 2 * p.lines =
     weigh_few n _ _ a b ha hb (below_added n (half_at e p).first a b (long_first e) ha hb (firsts e))
     (below_added n (half_at e p).second b a (long_second e) hb ha (seconds e)) in
     between n (cost (state_of p)) (cost (pairs.place (adding e a b) (state_of p)))
-    (omega (arith, cost_after_is p s a b ha hb e)) (omega (arith, cost_after_is p s a b ha hb e))
+    (omega (arith, cost_after_is p a b ha hb e)) (omega (arith, cost_after_is p a b ha hb e))
   where
     firsts : (e : End) → Below p.lines (half_at e p).first
-    firsts Output = s.layout.small_rows
-    firsts Input = s.layout.small_columns
+    firsts Output = p.sound.layout.small_rows
+    firsts Input = p.sound.layout.small_columns
 
     seconds : (e : End) → Below p.lines (half_at e p).second
-    seconds Output = s.layout.small_columns'
-    seconds Input = s.layout.small_rows'
+    seconds Output = p.sound.layout.small_columns'
+    seconds Input = p.sound.layout.small_rows'
 
     long_first : (e : End) → p.lines ≤ length (half_at e p).first
-    long_first Output = omega (arith, p.rows.full, s.few)
-    long_first Input = omega (arith, p.columns.full, s.few)
+    long_first Output = omega (arith, p.rows.full, p.sound.few)
+    long_first Input = omega (arith, p.columns.full, p.sound.few)
 
     long_second : (e : End) → p.lines ≤ length (half_at e p).second
-    long_second Output = omega (arith, p.rows.filled, s.few)
-    long_second Input = omega (arith, p.columns.filled, s.few)
+    long_second Output = omega (arith, p.rows.filled, p.sound.few)
+    long_second Input = omega (arith, p.columns.filled, p.sound.few)
 
-pub gain_between : (p : Pair) → Sound p → (e : End) (g : Cnot) → cnot.legal p.lines g ≡ true → Between p.lines (pos (cost (state_of p)) -ℤ pos (cost (place_at e g (state_of p))))
-gain_between p s Output g legal = let is = legal_says p.lines g legal in added_between p s Output g.control g.target is.control is.target
-gain_between p s Input g legal = let is = legal_says p.lines g legal in added_between p s Input g.target g.control is.target is.control
+pub gain_between : (p : Pair) (e : End) (g : Cnot) → cnot.legal p.lines g ≡ true → Between p.lines (pos (cost (state_of p)) -ℤ pos (cost (place_at e g (state_of p))))
+gain_between p Output g legal = let is = legal_says p.lines g legal in added_between p Output g.control g.target is.control is.target
+gain_between p Input g legal = let is = legal_says p.lines g legal in added_between p Input g.target g.control is.target is.control

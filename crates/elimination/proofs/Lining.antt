@@ -1,10 +1,10 @@
 -- The choice of the line, one unsolved line at a time.
-use Rattle.std.proofs.Common.{◌≡◌, ℕ, zero, suc, ◌+◌, ◌-◌, ◌*◌, ◌<◌, ◌≤◌, Bool, true, false, cond, not, eqb, ltb, List, Some, None, Option, sym, refl, ap, ◌∙◌, subst, ap₂, add-one, arith}
+use Rattle.std.proofs.Common.{◌≡◌, ℕ, zero, suc, ◌+◌, ◌-◌, ◌*◌, ◌<◌, ◌≤◌, Bool, true, false, cond, not, eqb, ltb, List, Some, None, Option, MatchOption, sym, refl, ap, ◌∙◌, subst, ap₂, add-one, arith}
 use Rattle.std.proofs.lemmas.Bool.{cond-true, cond-false, cond_both, not_from_false, not_from_true, ne_eqb}
 use Rattle.clearing.specs.Clearing.{Work, solved, better, best_trial, trials, keep_best, after, turn, cons_if}
 use Rattle.clearing.specs.Pairs.{cost, pairs}
 use Rattle.clearing.specs.Pairs.{Pair as State}
-use Rattle.elimination.specs.declared.pair.run.Cleared.{Cleared}
+use Rattle.elimination.specs.declared.pair.cleared.Cleared.{Cleared}
 use Rattle.elimination.specs.Lines.{trial_of, choose_line, best_line, Tried, steeper, line_of, Remembered}
 
 -- ---- one line against another
@@ -27,16 +27,17 @@ module _ (n : ℕ) (s : State) (before : ℕ) (old new : Cleared) (b : before �
       (λ e. (t, ap Some (sym (cond-true _ new.line old.line (better_is ∙ e)))))
       (λ e. (o, ap Some (sym (cond-false _ new.line old.line (better_is ∙ e)))))
 
+-- the choice so far against one more
+pub chosen_is : (n : ℕ) (s : State) (before : ℕ) (best : Option Cleared) (new result : Cleared) → before ≡ cost s → Remembered n s best → Tried n s new
+    → MatchOption best (result ≡ new) (λ old. result ≡ steeper before old new) → (◌≡◌ {A = Option ℕ} (Some result.line) (choose_line n s (line_of best) new.line))
+chosen_is n s before None new result b r t h = ap (λ (x : Cleared). Some x.line) h
+chosen_is n s before (Some old) new result b r t h = ap (λ (x : Cleared). Some x.line) h ∙ (steeper_is n s before old new b r t).1
+
 -- ---- a loop over the lines
 
 pub record Lining (n : ℕ) (s : State) (best : Option Cleared) (k : ℕ) : Type 0 where
   pub remembers : Remembered n s best
   pub whole : best_line n s (line_of best) k (n - k) ≡ best_line n s None 0 n
-
-pub lining_none : (n : ℕ) (s : State) → Lining n s None 0
-lining_none n s =
-    let e : n - 0 ≡ n = omega arith in
-    record { remembers = tt; whole = ap (λ (k : ℕ). best_line n s None 0 k) e }
 
 module _ (n : ℕ) (s : State) (best : Option Cleared) (k : ℕ) (h : Lining n s best k) (lt : k < n) (best'' : Option Cleared) where
   more : line_of best'' ≡ cond (not (solved pairs n s k)) (choose_line n s (line_of best) k) (line_of best) → Remembered n s best'' → Lining n s best'' (k + 1)

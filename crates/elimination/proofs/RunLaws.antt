@@ -25,7 +25,8 @@ use Rattle.clearing.proofs.Ends.{run_finishes}
 use Rattle.clearing.proofs.PlanLaws.{plan_gates, plan_local, replay_moved, apart_of}
 use Rattle.elimination.specs.declared.pair.Pair.{Pair}
 use Rattle.elimination.specs.Finds.{all_put}
-use Rattle.elimination.specs.Layouts.{both, state_of, Paired}
+use Rattle.elimination.specs.Layouts.{both}
+use Rattle.elimination.specs.States.{state_of, Paired}
 use Rattle.elimination.proofs.Writing.{found_ends}
 
 -- ---- the matrix of a pair
@@ -36,10 +37,10 @@ beside m p = both (rows_of m) (state_of p).inverse
 
 module _ (m : Matrix) (p : Pair) (is : Paired m (Ok p)) where
   pub beside_is : state_of p ≡ beside m p
-  beside_is = λ i. both (is.2 i) (state_of p).inverse
+  beside_is = λ i. both (is.1 i) (state_of p).inverse
 
   pub beside_inverses : Inverses m.lines (beside m p)
-  beside_inverses = subst (λ (n : ℕ). Inverses n (beside m p)) is.1 (subst (Inverses p.lines) beside_is is.0.inverses)
+  beside_inverses = subst (λ (n : ℕ). Inverses n (beside m p)) is.0 (subst (Inverses p.lines) beside_is p.sound.inverses)
 
   pub apart : Apart (2 ^ m.lines) (image (rows_of m))
   apart = apart_of m.lines (beside m p) beside_inverses

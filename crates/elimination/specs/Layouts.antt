@@ -1,15 +1,9 @@
 -- A matrix and its inverse in two layouts, by rows and by columns.
-use Rattle.std.specs.Prelude.{◌≡◌, ℕ, ◌^◌, ◌<◌, ◌≤◌, List, take, Some, Ok, Err, Result, slice_index}
-use Rattle.words.specs.Maps.{Clash}
+use Rattle.std.specs.Prelude.{◌≡◌, ℕ, ◌^◌, ◌<◌, ◌≤◌, List, take, slice_index}
 use Rattle.words.specs.Words.{has}
-use Rattle.gates.specs.declared.refusal.Refusal.{Refusal}
-use Rattle.gates.specs.declared.refusal.Refusal.TheVariants.{SharedImage}
-use Rattle.matrices.specs.Matrices.{image}
-use Rattle.matrices.specs.Meanings.{rows_of}
-use Rattle.matrices.specs.declared.matrix.Matrix.{Matrix}
-use Rattle.clearing.specs.Pairs.{Inverses, cost}
+use Rattle.clearing.specs.Pairs.{Inverses, cost as cost_of}
 use Rattle.clearing.specs.Pairs.{Pair as State}
-use Rattle.elimination.specs.declared.pair.Pair.{Pair}
+use Rattle.elimination.specs.declared.half.Half.{Half}
 
 abbrev pub both : List ℕ → List ℕ → State
 both m v = record { matrix = m; inverse = v }
@@ -30,17 +24,13 @@ pub record Layout (n : ℕ) (rows columns rows' columns' : List ℕ) : Type 0 wh
   pub small_rows' : Below n rows'
   pub small_columns' : Below n columns'
 
--- The matrix and its inverse that a pair stands for.
-abbrev pub state_of : Pair → State
-state_of p = both (take p.lines p.rows.first) (take p.lines p.columns.second)
+-- The matrix and its inverse that two layouts on n lines stand for.
+abbrev pub held : ℕ → Half → Half → State
+held n rows columns = both (take n rows.first) (take n columns.second)
 
-pub record Sound (p : Pair) : Type 0 where
-  pub few : p.lines ≤ 64
-  pub inverses : Inverses p.lines (state_of p)
-  pub layout : Layout p.lines p.rows.first p.columns.first p.columns.second p.rows.second
-  pub counted : p.cost ≡ cost (state_of p)
-
--- The pair of a matrix; a matrix with a clash has none, and the clash is told.
-abbrev pub Paired : Matrix → Result Pair Refusal → Type 0
-Paired m (Ok p) = Sound p × (p.lines ≡ m.lines) × ((state_of p).matrix ≡ rows_of m)
-Paired m (Err why) = (c : ℕ × ℕ) × Clash m.lines (image (rows_of m)) (Some c) × (why ≡ SharedImage c.0 c.1)
+-- Two layouts of a matrix and its inverse, and the cost of the two.
+pub record Sound (lines cost : ℕ) (rows columns : Half) : Type 0 where
+  pub few : lines ≤ 64
+  pub inverses : Inverses lines (held lines rows columns)
+  pub layout : Layout lines rows.first columns.first columns.second rows.second
+  pub counted : cost ≡ cost_of (held lines rows columns)

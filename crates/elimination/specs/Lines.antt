@@ -1,9 +1,9 @@
 -- The line that a turn of a run clears, chosen one line at a time.
-use Rattle.std.specs.Prelude.{◌≡◌, ℕ, zero, suc, ◌+◌, ◌*◌, ◌<◌, ◌≤◌, cond, not, length, Some, None, Option, nat_lt}
+use Rattle.std.specs.Prelude.{◌≡◌, ℕ, zero, suc, ◌+◌, ◌*◌, ◌<◌, cond, not, length, Some, None, Option, nat_lt}
 use Rattle.clearing.specs.Clearing.{Work, start, clear, solved, better}
 use Rattle.clearing.specs.Pairs.{cost, pairs}
 use Rattle.clearing.specs.Pairs.{Pair as State}
-use Rattle.elimination.specs.declared.pair.run.Cleared.{Cleared}
+use Rattle.elimination.specs.declared.pair.cleared.Cleared.{Cleared}
 
 -- Line d cleared from s, as a trial.
 abbrev pub trial_of : ℕ → State → ℕ → Work pairs
@@ -19,17 +19,11 @@ unfoldable pub best_line : ℕ → State → Option ℕ → ℕ → ℕ → Opti
 best_line n s o k zero = o
 best_line n s o k (suc m) = best_line n s (cond (not (solved pairs n s k)) (choose_line n s o k) o) (suc k) m
 
--- The cost that a trial leaves, and the number of its gates, are small.
-pub record Small (t : Cleared) : Type 0 where
-  pub left : t.left ≤ 8192
-  pub count : t.count ≤ 257
-
 -- What is remembered of a line cleared on trial.
 pub record Tried (n : ℕ) (s : State) (t : Cleared) : Type 0 where
   pub inside : t.line < n
   pub left : t.left ≡ cost (trial_of n s t.line).state
   pub count : t.count ≡ length (trial_of n s t.line).gates
-  pub small : Small t
 
 -- Of two trials from the same cost, the one with the larger cost drop per gate, the first among equals.
 abbrev pub steeper : ℕ → Cleared → Cleared → Cleared

@@ -1,9 +1,10 @@
 // Elimination: the lines of a matrix are cleared by CNOT gates, each time the line with the largest cost drop per gate.
 #![tactic(auto)]
 
-mod found;
+mod addition;
 mod half;
 mod pair;
+mod placed;
 mod rule;
 mod telling;
 

@@ -1,13 +1,12 @@
 // The run of a matrix.
 ghost use Rattle.std.specs.Prelude.{◌≡◌, ◌≤◌};
-ghost use Rattle.gates.specs.Refusals.{answer, short};
 ghost use Rattle.clearing.specs.Laws.{room};
 ghost use Rattle.clearing.specs.Plans.{matrix_plan};
 
 use crate::pair::Pair;
 use books::Book;
 use gates::cnot::Cnot;
-use gates::refusal::Refusal;
+use gates::refusal::{Refusal, enough_places};
 use matrices::matrix::Matrix;
 use pieces::piece::Piece;
 use pieces::rule::Rule;
@@ -22,7 +21,7 @@ impl Rule<Cnot, Matrix> for Elimination {
     fn run(&self, matrix: &mut Matrix, book: &mut Book<Cnot>) -> Result<(), Refusal> {
         let mut pair = Pair::of(matrix)?;
         let lines = matrix.lines();
-        refuse_short(places_needed(lines), book.free())?;
+        enough_places(places_needed(lines), book.free())?;
         pair.run(book);
         *matrix = Matrix::identity(lines)?;
         Ok(())
@@ -37,14 +36,4 @@ fn places_needed(lines: u8) -> usize
 {
     let n = lines as usize;
     (n - 1) * (2 * n + 1)
-}
-
-// Declines where more places are needed than are free.
-fn refuse_short(needed: usize, free: usize) -> Result<(), Refusal>
-    ensures { result ≡ answer (short needed free) }
-{
-    if free < needed {
-        return Err(Refusal::TooFewPlaces { needed, free });
-    }
-    Ok(())
 }

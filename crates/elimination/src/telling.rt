@@ -1,9 +1,9 @@
 // What a matrix costs, and what a gate gains.
 ghost use Rattle.std.specs.Prelude.{◌≡◌, ◌≤◌, pos, ◌-ℤ◌, IfOk};
 ghost use Rattle.matrices.specs.Meanings.{matrix_meaning};
-ghost use Rattle.clearing.specs.Clearing.{adding};
 ghost use Rattle.elimination.specs.Costs.{CostTold, GainTold, Between};
 
+use crate::addition::Addition;
 use crate::pair::Pair;
 use gates::cnot::Cnot;
 use gates::end::End;
@@ -26,23 +26,11 @@ pub fn gain(matrix: &Matrix, end: End, gate: Cnot) -> Result<i32, Refusal>
     ensures told { GainTold (matrix_meaning matrix.now) end gate result }
     ensures between { IfOk result (Between (matrix_meaning matrix.now).lines) }
 {
-    if !gate.is_legal(matrix.lines()) {
-        return Err(Refusal::IllegalGate);
-    }
+    gate.check(matrix.lines())?;
     let mut pair = Pair::of(matrix)?;
-    let (from, to) = added_line(end, gate);
     let before = pair.cost();
-    Ok(difference(before, pair.cost_after(end, from, to)))
-}
-
-// The line that a gate adds, and the line that it is added to.
-fn added_line(end: End, gate: Cnot) -> (u8, u8)
-    ensures { adding end result.0 result.1 ≡ (end, gate) }
-{
-    match end {
-        End::Output => (gate.control, gate.target),
-        End::Input => (gate.target, gate.control),
-    }
+    let addition = Addition::of(end, gate);
+    Ok(difference(before, pair.cost_after(addition)))
 }
 
 // What a cost falls by.

@@ -4,6 +4,7 @@ ghost use Rattle.words.specs.Words.{has};
 ghost use Rattle.elimination.specs.Halves.{column_added, Spread};
 
 use super::Half;
+use crate::addition::Addition;
 
 impl Half {
     pub(crate) fn new(first: [u64; 64], second: [u64; 64]) -> Half
@@ -13,12 +14,11 @@ impl Half {
         Half { first, second }
     }
 
-    // The addition of line `from` to line `to` in the other layout, where it changes a bit of each word.
-    pub(crate) fn spread(&mut self, from: u8, to: u8)
-        requires from { from < 64 }
-        requires to { to < 64 }
-        ensures { Spread from to self.old self.new }
+    // An addition to a line of the other layout, where it changes a bit of each word.
+    pub(crate) fn spread(&mut self, addition: Addition)
+        ensures { Spread addition self.old self.new }
     {
+        let Addition { from, to, .. } = addition;
         flip(&mut self.first, from, to);
         flip(&mut self.second, to, from);
     }

@@ -1,24 +1,24 @@
 // Clearing a line, stage by stage.
-ghost use Rattle.std.specs.Prelude.{◌≡◌, ◌+◌, ◌*◌, ◌<◌, ◌≤◌, ◌≢◌, nat_le};
-ghost use Rattle.clearing.specs.Clearing.{adding, put, try, rising, sweep_at, greedy_at, start, pivot, clear as clear_line};
-ghost use Rattle.clearing.specs.Pairs.{pairs};
-ghost use Rattle.elimination.specs.Finds.{work_of};
-ghost use Rattle.elimination.specs.Layouts.{Sound, state_of};
+ghost use Rattle.std.specs.Prelude.{◌≡◌, ◌+◌, ◌*◌, ◌<◌, ◌≤◌, [], nat_le};
+ghost use Rattle.arrayvec.specs.ArrayVec.{array_vec_len};
+ghost use Rattle.clearing.specs.Clearing.{put, try, rising, sweep_at, greedy_at, pivot, clear as clear_line};
+ghost use Rattle.clearing.specs.Pairs.{pairs, cost as cost_of};
+ghost use Rattle.elimination.specs.Additions.{placed, Within};
+ghost use Rattle.elimination.specs.Finds.{Done};
+ghost use Rattle.elimination.specs.States.{state_of};
 
 use super::Pair;
-use crate::found::Found;
-use gates::cnot::Cnot;
+use super::choice::Choice;
+use crate::addition::Addition;
+use crate::placed::Placed;
+use arrayvec::ArrayVec;
 use gates::end::End;
 
-// The gate that adds line `from` to line `to` at an end.
-fn gate(end: End, from: u8, to: u8) -> (End, Cnot)
-    ensures { result ≡ adding end from to }
-{
-    let (control, target) = match end {
-        End::Output => (from, to),
-        End::Input => (to, from),
-    };
-    (end, Cnot { control, target })
+// A pair, and the gates that led to it in the order found. Clearing a line of 64 takes 257 at most.
+#[derive(Drop)]
+pub(super) struct Found {
+    pub(super) pair: Pair,
+    pub(super) gates: ArrayVec<Placed, 257>,
 }
 
 // Whether a cost falls by 2 at least.
@@ -29,108 +29,92 @@ fn falls_by_two(before: u32, after: u32) -> bool
     after + 2 <= before
 }
 
-impl Pair {
-    // Puts a gate in and writes it down.
-    fn keep(&mut self, end: End, from: u8, to: u8, gates: &mut Found)
-        requires sound { Sound self.old }
-        requires from { from < self.old.lines }
-        requires to { to < self.old.lines }
-        requires apart { from ≢ to }
-        requires room { gates.old.count < 257 }
-        ensures sound { Sound self.new }
-        ensures lines { self.new.lines ≡ self.old.lines }
-        ensures count { gates.new.count ≡ gates.old.count + 1 }
-        ensures work { work_of self.new gates.new ≡ put pairs (adding end from to) (work_of self.old gates.old) }
+impl Found {
+    // Nothing found yet.
+    pub(super) fn new(pair: Pair) -> Found
+        ensures pair { result.pair ≡ pair }
+        ensures none { result.gates.items ≡ [] }
     {
-        self.put(end, from, to);
-        gates.push(gate(end, from, to));
+        Found {
+            pair,
+            gates: ArrayVec::new(),
+        }
     }
 
-    // Keeps the gate that adds line `from` to line `to` if its gain is at least 2.
-    fn try_gate(&mut self, end: End, from: u8, to: u8, gates: &mut Found)
-        requires sound { Sound self.old }
-        requires from { from < self.old.lines }
-        requires to { to < self.old.lines }
-        requires apart { from ≢ to }
-        requires room { gates.old.count < 257 }
-        ensures sound { Sound self.new }
-        ensures lines { self.new.lines ≡ self.old.lines }
-        ensures few { gates.new.count ≤ gates.old.count + 1 }
-        ensures work { work_of self.new gates.new ≡ try pairs (adding end from to) (work_of self.old gates.old) }
+    // Makes a chosen addition and writes its gate down.
+    fn keep(&mut self, choice: Choice)
+        requires within { Within self.old.pair.lines choice.addition }
+        requires cost { choice.cost ≡ cost_of (pairs.place (placed choice.addition) (state_of self.old.pair)) }
+        requires room { array_vec_len self.old.gates < 257 }
+        ensures { Done 1 (put pairs (placed choice.addition)) self.old self.new }
     {
-        let after = self.cost_after(end, from, to);
-        if falls_by_two(self.cost, after) {
-            self.keep(end, from, to, gates);
+        self.pair.put(choice.addition, choice.cost);
+        self.gates.push(choice.addition.gate());
+    }
+
+    // Keeps an addition if its gain is at least 2.
+    fn keep_if_good(&mut self, addition: Addition)
+        requires within { Within self.old.pair.lines addition }
+        requires room { array_vec_len self.old.gates < 257 }
+        ensures { Done 1 (try pairs (placed addition)) self.old self.new }
+    {
+        let choice = self.pair.choice(addition);
+        if falls_by_two(self.pair.cost(), choice.cost) {
+            self.keep(choice);
         }
     }
 
     // Stage 1: keeps each gate from another unsolved line to `d`, at either end, whose gain is at least 2.
-    fn greedy(&mut self, d: u8, gates: &mut Found)
-        requires sound { Sound self.old }
-        requires inside { d < self.old.lines }
-        requires none { gates.old.count ≡ 0 }
-        ensures sound { Sound self.new }
-        ensures lines { self.new.lines ≡ self.old.lines }
-        ensures few { gates.new.count ≤ 2 * self.old.lines }
-        ensures work { work_of self.new gates.new ≡ rising (greedy_at pairs self.old.lines d) 0 self.old.lines (work_of self.old gates.old) }
+    fn greedy(&mut self, d: u8)
+        requires inside { d < self.old.pair.lines }
+        requires room { array_vec_len self.old.gates + 2 * self.old.pair.lines ≤ 257 }
+        ensures { Done (2 * self.old.pair.lines) (rising (greedy_at pairs self.old.pair.lines d) 0 self.old.pair.lines) self.old self.new }
     {
-        for i in 0..self.lines {
-            if i != d && !self.is_solved(i) {
-                self.try_gate(End::Output, i, d, gates);
-                self.try_gate(End::Input, i, d, gates);
+        for i in 0..self.pair.lines {
+            if i != d && !self.pair.is_solved(i) {
+                self.keep_if_good(Addition::new(End::Output, i, d));
+                self.keep_if_good(Addition::new(End::Input, i, d));
             }
         }
     }
 
     // Stage 2: brings a one to (d, d), if there is none.
-    fn light(&mut self, d: u8, gates: &mut Found)
-        requires sound { Sound self.old }
-        requires inside { d < self.old.lines }
-        requires room { gates.old.count < 257 }
-        ensures sound { Sound self.new }
-        ensures lines { self.new.lines ≡ self.old.lines }
-        ensures few { gates.new.count ≤ gates.old.count + 1 }
-        ensures work { work_of self.new gates.new ≡ pivot pairs self.old.lines d (work_of self.old gates.old) }
+    fn light(&mut self, d: u8)
+        requires inside { d < self.old.pair.lines }
+        requires room { array_vec_len self.old.gates < 257 }
+        ensures { Done 1 (pivot pairs self.old.pair.lines d) self.old self.new }
     {
-        if self.at(End::Output, d, d) {
+        if self.pair.at(End::Output, d, d) {
             return;
         }
-        if let Some(choice) = self.best_pivot(d) {
-            self.keep(choice.end, choice.from, d, gates);
+        if let Some(choice) = self.pair.best_pivot(d) {
+            self.keep(choice);
         }
     }
 
     // Stages 3 and 4: clears the entries at `d` of the lines other than `d`.
-    fn sweep(&mut self, end: End, d: u8, gates: &mut Found)
-        requires sound { Sound self.old }
-        requires inside { d < self.old.lines }
-        requires room { gates.old.count + self.old.lines ≤ 257 }
-        ensures sound { Sound self.new }
-        ensures lines { self.new.lines ≡ self.old.lines }
-        ensures few { gates.new.count ≤ gates.old.count + self.old.lines }
-        ensures work { work_of self.new gates.new ≡ rising (sweep_at pairs end d) 0 self.old.lines (work_of self.old gates.old) }
+    fn sweep(&mut self, end: End, d: u8)
+        requires inside { d < self.old.pair.lines }
+        requires room { array_vec_len self.old.gates + self.old.pair.lines ≤ 257 }
+        ensures { Done self.old.pair.lines (rising (sweep_at pairs end d) 0 self.old.pair.lines) self.old self.new }
     {
-        for i in 0..self.lines {
-            if i != d && self.at(end, i, d) {
-                let j = self.best_helper(end, d, i);
-                self.keep(end, j, i, gates);
+        for i in 0..self.pair.lines {
+            if i != d && self.pair.at(end, i, d) {
+                let best = self.pair.best_helper(Addition::new(end, d, i));
+                self.keep(best);
             }
         }
     }
 
-    // Clears line `d`, and tells the gates.
-    pub(super) fn clear(&mut self, d: u8) -> Found
-        requires sound { Sound self.old }
-        requires inside { d < self.old.lines }
-        ensures sound { Sound self.new }
-        ensures lines { self.new.lines ≡ self.old.lines }
-        ensures work { work_of self.new result ≡ clear_line pairs self.old.lines d (start pairs (state_of self.old)) }
+    // Clears line `d`.
+    pub(super) fn clear(&mut self, d: u8)
+        requires inside { d < self.old.pair.lines }
+        requires room { array_vec_len self.old.gates + 4 * self.old.pair.lines < 257 }
+        ensures { Done (4 * self.old.pair.lines + 1) (clear_line pairs self.old.pair.lines d) self.old self.new }
     {
-        let mut gates = Found::new();
-        self.greedy(d, &mut gates);
-        self.light(d, &mut gates);
-        self.sweep(End::Output, d, &mut gates);
-        self.sweep(End::Input, d, &mut gates);
-        gates
+        self.greedy(d);
+        self.light(d);
+        self.sweep(End::Output, d);
+        self.sweep(End::Input, d);
     }
 }

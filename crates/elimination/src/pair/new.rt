@@ -1,8 +1,11 @@
-// A pair made from the rows of a matrix and of its inverse.
+// A pair made from the rows of a matrix and of its inverse. Each function over rows asks for 64 at most: over the matrix itself, whose
+// type says so, the proofs of the loops did not close, since they read the rows of a call.
 ghost use Rattle.std.specs.Prelude.{◌≡◌, ℕ, ◌+◌, ◌^◌, ◌<◌, ◌≤◌, length, take, slice_index};
 ghost use Rattle.words.specs.Words.{has};
+ghost use Rattle.matrices.specs.Meanings.{rows_of};
 ghost use Rattle.clearing.specs.Pairs.{Inverses, differing};
-ghost use Rattle.elimination.specs.Layouts.{Across, Below, Sound, both, state_of, Paired};
+ghost use Rattle.elimination.specs.Layouts.{Across, Below, both};
+ghost use Rattle.elimination.specs.States.{state_of, Paired};
 
 use super::Pair;
 use crate::half::Half;
@@ -16,58 +19,57 @@ fn padded(rows: &[u64]) -> [u64; 64]
     ensures { take (length rows.now) result ≡ rows.now }
 {
     let mut words = [0; 64];
-    for (r, row) in rows.iter().enumerate() {
-        words[r] = *row;
-    }
+    words[..rows.len()].copy_from_slice(rows);
     words
 }
 
-// Column `j` of the first `n` words.
-fn column(n: u8, words: &[u64; 64], j: u8) -> u64
-    requires lines { n ≤ 64 }
+// Column `j` of row words.
+fn column(rows: &[u64], j: usize) -> u64
+    requires few { length rows.now ≤ 64 }
     requires place { j < 64 }
-    ensures small { result < 2 ^ n }
-    ensures bits { (i : ℕ) → i < n → has result i ≡ has (slice_index words.now i) j }
+    ensures small { result < 2 ^ length rows.now }
+    ensures bits { (i : ℕ) → i < length rows.now → has result i ≡ has (slice_index rows.now i) j }
 {
     let mut column = 0;
-    for i in 0..n {
-        column ^= ((words[i as usize] >> j) & 1) << i;
+    for (i, row) in rows.iter().enumerate() {
+        column ^= ((*row >> j) & 1) << i;
     }
     column
 }
 
-// The columns of the first `n` words.
-fn across(n: u8, words: &[u64; 64]) -> [u64; 64]
-    requires { n ≤ 64 }
-    ensures across { Across n words.now result }
-    ensures small { Below n result }
+// The columns of row words.
+fn across(rows: &[u64]) -> [u64; 64]
+    requires { length rows.now ≤ 64 }
+    ensures across { Across (length rows.now) rows.now result }
+    ensures small { Below (length rows.now) result }
 {
     let mut columns = [0; 64];
-    for j in 0..n {
-        columns[j as usize] = column(n, words, j);
+    for (j, word) in columns[..rows.len()].iter_mut().enumerate() {
+        *word = column(rows, j);
     }
     columns
 }
 
-// In how many entries the first `n` words differ from those of identity.
-fn count_off(n: u8, words: &[u64; 64]) -> u32
-    requires { n ≤ 64 }
-    ensures value { result ≡ differing 0 (take n words.now) }
+// In how many entries row words differ from those of identity.
+fn count_off(rows: &[u64]) -> u32
+    requires { length rows.now ≤ 64 }
+    ensures value { result ≡ differing 0 rows.now }
     ensures small { result ≤ 4096 }
 {
     let mut count = 0;
-    for i in 0..n {
-        count += (words[i as usize] ^ (1 << i)).count_ones();
+    for (i, row) in rows.iter().enumerate() {
+        count += (*row ^ (1 << i)).count_ones();
     }
     count
 }
 
 // In how many entries a matrix and its inverse differ from identity.
-fn count_both(n: u8, rows: &[u64; 64], inverse: &[u64; 64]) -> u32
-    requires { n ≤ 64 }
-    ensures { result ≡ differing 0 (take n rows.now) + differing 0 (take n inverse.now) }
+fn count_both(rows: &[u64], inverse: &[u64]) -> u32
+    requires rows { length rows.now ≤ 64 }
+    requires inverse { length inverse.now ≤ 64 }
+    ensures { result ≡ differing 0 rows.now + differing 0 inverse.now }
 {
-    count_off(n, rows) + count_off(n, inverse)
+    count_off(rows) + count_off(inverse)
 }
 
 impl Pair {
@@ -76,24 +78,22 @@ impl Pair {
         ensures { Paired matrix.now result }
     {
         let inverse = matrix.inverse()?;
-        Ok(Pair::new(matrix.lines(), matrix.rows(), inverse.rows()))
+        Ok(Pair::new(matrix, &inverse))
     }
 
-    // The rows of a matrix, and those of its inverse.
-    fn new(lines: u8, rows: &[u64], inverse: &[u64]) -> Pair
-        requires few { lines ≤ 64 }
-        requires inverses { Inverses lines (both rows.now inverse.now) }
-        ensures sound { Sound result }
-        ensures lines { result.lines ≡ lines }
-        ensures state { state_of result ≡ both rows.now inverse.now }
+    fn new(matrix: &Matrix, inverse: &Matrix) -> Pair
+        requires { Inverses matrix.now.lines (both (rows_of matrix.now) (rows_of inverse.now)) }
+        ensures lines { result.lines ≡ matrix.now.lines }
+        ensures state { state_of result ≡ both (rows_of matrix.now) (rows_of inverse.now) }
     {
-        let rows = padded(rows);
-        let inverse = padded(inverse);
+        let lines = matrix.lines();
+        let rows = matrix.rows();
+        let inverse = inverse.rows();
         Pair {
             lines,
-            cost: count_both(lines, &rows, &inverse),
-            rows: Half::new(rows, across(lines, &inverse)),
-            columns: Half::new(across(lines, &rows), inverse),
+            cost: count_both(rows, inverse),
+            rows: Half::new(padded(rows), across(inverse)),
+            columns: Half::new(across(rows), padded(inverse)),
         }
     }
 }

@@ -1,5 +1,5 @@
 use Rattle.std.proofs.Common.{◌≡◌}
-use Rattle.elimination.specs.Layouts.{state_of}
+use Rattle.elimination.specs.States.{state_of}
 use Rattle.elimination.proofs.Helping.{Helping}
 use Rattle.elimination.proofs.pair.Pair.best_helper.Given as goal
 

@@ -1,5 +1,5 @@
-use Rattle.std.proofs.Common.{sym, ◌∙◌}
-use Rattle.elimination.specs.Layouts.{state_of}
+use Rattle.std.proofs.Common.{Some, sym, ◌∙◌}
+use Rattle.elimination.specs.States.{state_of}
 use Rattle.elimination.proofs.Lining.{lining_yes, lining_no, lining_all}
 use Rattle.elimination.proofs.pair.Pair.best_line.Goals as goal
 use Rattle.elimination.proofs.pair.Pair.best_line.Goals.{then-not-is_solved, else-not-is_solved}
@@ -10,8 +10,8 @@ loop-d-preserved c =
     let l = c.loop-d in
     elim c.if-not-is_solved.branch [
       | then-not-is_solved w ↦
-          lining_yes p.lines (state_of p) l.best l.d l.invariant c.loop-d-test.true c.if-not-is_solved.best w.try_line-best.result
-          (sym c.is_solved.ensures ∙ w.if-not-is_solved.true) w.try_line-best.ensures.value w.try_line-best.ensures.remembers w.best-is
+          lining_yes p.lines (state_of p) l.best l.d l.invariant c.loop-d-test.true c.if-not-is_solved.best (Some w.try_line.result)
+          (sym c.is_solved.ensures ∙ w.if-not-is_solved.true) w.try_line.ensures.value w.try_line.ensures.tried w.best-is
       | else-not-is_solved w ↦
           lining_no p.lines (state_of p) l.best l.d l.invariant c.loop-d-test.true c.if-not-is_solved.best
           (sym c.is_solved.ensures ∙ w.if-not-is_solved.false) w.best-is

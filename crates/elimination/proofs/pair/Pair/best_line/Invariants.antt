@@ -1,4 +1,4 @@
-use Rattle.elimination.specs.Layouts.{state_of}
+use Rattle.elimination.specs.States.{state_of}
 use Rattle.elimination.proofs.Lining.{Lining}
 use Rattle.elimination.proofs.pair.Pair.best_line.Given as goal
 

@@ -1,5 +1,5 @@
 use Rattle.std.proofs.Common.{◌∙◌}
-use Rattle.elimination.specs.Layouts.{state_of}
+use Rattle.elimination.specs.States.{state_of}
 use Rattle.elimination.proofs.Pivoting.{pivoting_turn, pivoting_all}
 use Rattle.elimination.proofs.pair.Pair.best_pivot.Goals as goal
 

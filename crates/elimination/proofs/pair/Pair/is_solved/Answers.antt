@@ -7,7 +7,7 @@ pub returns-then-is_unit : goal.returns-then-is_unit
 returns-then-is_unit c =
     ap (λ (b : Bool). b && c.is_unit-then-is_unit.result) (sym c.if-is_unit.true)
     ∙ ap₂ (λ (a b : Bool). a && b) c.is_unit.ensures c.is_unit-then-is_unit.ensures
-    ∙ solved_is c.args.self.now c.requires.sound c.args.d c.requires.inside
+    ∙ solved_is c.args.self.now c.args.d c.requires
 
 pub returns-else-is_unit : goal.returns-else-is_unit
 returns-else-is_unit c =
@@ -15,4 +15,4 @@ returns-else-is_unit c =
     let off : eqb (get_or p.rows.first c.args.d 0) (2 ^ c.args.d) ≡ false = sym c.is_unit.ensures ∙ c.if-is_unit.false in
     c.if-is_unit.false
     ∙ sym (and_left (eqb (get_or p.rows.first c.args.d 0) (2 ^ c.args.d)) (eqb (get_or p.columns.first c.args.d 0) (2 ^ c.args.d)) off)
-    ∙ solved_is c.args.self.now c.requires.sound c.args.d c.requires.inside
+    ∙ solved_is c.args.self.now c.args.d c.requires

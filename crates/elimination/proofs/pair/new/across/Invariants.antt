@@ -3,4 +3,4 @@ use Rattle.elimination.proofs.Columns.{Reads}
 use Rattle.elimination.proofs.pair.new.across.Given as goal
 
 abbrev pub invariant-loop-j : goal.invariant-loop-j
-invariant-loop-j l = (length l.columns ≡ 64) × Reads l.n l.words l.j l.columns
+invariant-loop-j l = (length l.word-items ≡ length l.rows) × Reads (length l.rows) l.rows l.j l.word-items

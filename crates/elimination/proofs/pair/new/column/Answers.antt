@@ -3,4 +3,4 @@ use Rattle.elimination.proofs.Columns.{read_more}
 use Rattle.elimination.proofs.pair.new.column.Goals as goal
 
 pub loop-i-preserved : goal.loop-i-preserved
-loop-i-preserved c = read_more c.args.words.now c.args.j c.loop-i.i c.loop-i.column (omega arith) c.loop-i.invariant
+loop-i-preserved c = read_more c.args.rows.now c.args.j c.loop-i.i c.loop-i.column (omega arith) c.loop-i.invariant

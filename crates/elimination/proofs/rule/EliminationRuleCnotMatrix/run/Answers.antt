@@ -24,16 +24,16 @@ returns-in_err-pair c =
       kept = kept_none b;
     }
 
-pub returns-in_err-refuse_short : goal.returns-in_err-refuse_short
-returns-in_err-refuse_short c =
-    let r = c.from_residual-in_err-refuse_short in
+pub returns-in_err-enough_places : goal.returns-in_err-enough_places
+returns-in_err-enough_places c =
+    let r = c.from_residual-in_err-enough_places in
     let e = err_from_is_err_and r.result r.ensures.1 in
     let m = c.args.matrix.now in
     let b = c.args.book.now in
     record {
       answer = tells_short m c.in_ok-pair.pair b c.places_needed.result c.free.result r.result c.in_ok-pair.ensures
           (c.places_needed.ensures ∙ ap room c.lines-lines.ensures.count) c.free.ensures
-          (e.1 ∙ ap Err e.2 ∙ c.in_err-refuse_short.ensures);
+          (e.1 ∙ ap Err e.2 ∙ c.in_err-enough_places.ensures.answer);
       after = MatchResult-from_err _ _ _ r.ensures.0 (λ _. (refl, refl));
       kept = kept_none b;
     }
@@ -55,8 +55,8 @@ returns c =
     let fixed : Identity m.lines (image rows) =
     subst (λ (n : ℕ). Identity n (image rows)) count (units_identity k c.lines-lines.ensures.least c.lines-lines.ensures.most rows made.2) in
     record {
-      answer = tells_short m p b c.places_needed.result c.free.result (Ok tt) is (c.places_needed.ensures ∙ ap room count) c.free.ensures c.in_ok-refuse_short.ensures;
+      answer = tells_short m p b c.places_needed.result c.free.result (Ok tt) is (c.places_needed.ensures ∙ ap room count) c.free.ensures c.in_ok-enough_places.ensures.answer;
       after = ran m.lines m.few (beside m p) (beside_inverses m p is) b c.run.new.book _ rows fixed (made.1 ∙ count)
-          (c.run.ensures.ends ∙ ap₂ (λ (n : ℕ) (s : State). all_put (run pairs n s).gates (ends b)) is.1 (beside_is m p is));
+          (c.run.ensures.ends ∙ ap₂ (λ (n : ℕ) (s : State). all_put (run pairs n s).gates (ends b)) is.0 (beside_is m p is));
       kept = c.run.ensures.kept;
     }
