@@ -19,24 +19,28 @@ module _ {G : Type 0} where
   abbrev pub list_meaning : Kind G → GateList G → Meaning
   list_meaning K l = record { lines = l.lines; map = through K l.lines (held l); free = length l.places.now - l.used }
 
+  -- What it is made of: the memory, how many places hold a gate, and the number of lines.
+  abbrev pub parts : GateList G → MutBor (List G) × ℕ × ℕ
+  parts l = (l.places, l.used, l.lines)
+
   -- An empty list on 1 line, over this memory.
-  abbrev pub fresh : MutBor (List G) → GateList G
-  fresh memory = record { places = memory; used = 0; lines = 1 }
+  abbrev pub fresh : MutBor (List G) → MutBor (List G) × ℕ × ℕ
+  fresh memory = (memory, 0, 1)
 
   -- The list emptied, on n lines. No place is written.
-  abbrev pub restarted : ℕ → GateList G → GateList G
-  restarted n l = record { places = l.places; used = 0; lines = n }
+  abbrev pub restarted : ℕ → GateList G → MutBor (List G) × ℕ × ℕ
+  restarted n l = (l.places, 0, n)
 
   -- The answer to a number of lines, of which the gate kind has limits.
   abbrev pub restarts : Kind G → ℕ → Result (Unit {0}) Refusal
   restarts K n = answer (first (nat_lt n 1 || nat_lt K.most n) WrongSize None)
 
   -- The list with one gate more, which is written at the first unused place.
-  abbrev pub with_gate : G → GateList G → GateList G
-  with_gate g l = record { places = at_last l.places (slice_set l.places.now l.used g); used = l.used + 1; lines = l.lines }
+  abbrev pub with_gate : G → GateList G → MutBor (List G) × ℕ × ℕ
+  with_gate g l = (at_last l.places (slice_set l.places.now l.used g), l.used + 1, l.lines)
 
   pub record Pushed (g : G) (l l' : GateList G) : Type 0 where
-    pub whole : l' ≡ with_gate g l
+    pub whole : parts l' ≡ with_gate g l
     pub gates : held l' ≡ held l ++ g ∷ []
 
 -- The answer to whether two lists have the same map: line counts that differ are declined.

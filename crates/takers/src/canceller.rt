@@ -1,20 +1,23 @@
 // The canceller: a taker over any taker, in which two equal gates that follow each other vanish.
-ghost use Rattle.std.specs.Prelude.{◌≡◌, None, MatchResult};
+ghost use Rattle.std.specs.Prelude.{◌≡◌, ◌≤◌, true, None, MatchResult, IfSome};
+ghost use Rattle.std.proofs.Props.{props};
 ghost use Rattle.takers.specs.Meanings.{accept, Fed};
-ghost use Rattle.takers.specs.Cancellers.{cancelling, sends, Flushed, Cancelled};
 
 use crate::taker::Taker;
 use gates::gate::Gate;
-use gates::refusal::Refusal;
+use gates::refusal::{Refusal, enough_places};
 
-// It holds back at most one gate, the last that it took.
+// It holds back at most one gate, the last that it took, and the taker below is sure to take it.
 #[derive(Drop)]
-pub struct Canceller<T, G> {
+pub struct Canceller<T: Taker<G>, G: Gate> {
     below: T,
     held: Option<G>,
+    ghost sendable: { IfSome held (λ g. (G.Gate.kind.legal (T.Taker.meaning below).lines g ≡ true) × (1 ≤ (T.Taker.meaning below).free)) } by { Prim.hlevel props },
 }
 
 impl<G: Gate, T: Taker<G>> Canceller<T, G> {
+    ghost use Rattle.takers.specs.Cancellers.{sends, Flushed};
+
     pub fn new(below: T) -> Self
         ensures { (result.below ≡ below) × (result.held ≡ None) }
     {
@@ -50,6 +53,8 @@ impl<G: Gate, T: Taker<G>> Canceller<T, G> {
 }
 
 impl<G: Gate, T: Taker<G>> Taker<G> for Canceller<T, G> {
+    ghost use Rattle.takers.specs.Cancellers.{cancelling, Cancelled};
+
     ghost meaning = { cancelling G.Gate.kind T.Taker.meaning };
 
     fn lines(&self) -> u8 {
@@ -57,10 +62,7 @@ impl<G: Gate, T: Taker<G>> Taker<G> for Canceller<T, G> {
     }
 
     fn free(&self) -> usize {
-        match self.held {
-            Some(_) => self.below.free().saturating_sub(1),
-            None => self.below.free(),
-        }
+        self.below.free() - usize::from(self.held.is_some())
     }
 
     fn take(&mut self, gate: G) -> Result<(), Refusal>
@@ -68,21 +70,13 @@ impl<G: Gate, T: Taker<G>> Taker<G> for Canceller<T, G> {
         ensures after { MatchResult result (λ _. Fed G.Gate.kind (cancelling G.Gate.kind T.Taker.meaning self.old) gate (cancelling G.Gate.kind T.Taker.meaning self.new)) (λ _. self.new ≡ self.old) }
         ensures held { MatchResult result (λ _. Cancelled G.Gate.kind T.Taker.meaning gate self.old self.new) (λ _. self.new ≡ self.old) }
     {
-        if !gate.is_legal(self.lines()) {
-            return Err(Refusal::IllegalGate);
-        }
-        let free = self.free();
-        if free < 1 {
-            return Err(Refusal::TooFewPlaces { needed: 1, free });
-        }
-        match self.held {
-            Some(held) if held.equals(gate) => self.held = None,
-            Some(held) => {
-                // Below has a place for it; a gate that is illegal there would change nothing.
-                let _ = self.below.take(held);
-                self.held = Some(gate);
-            }
-            None => self.held = Some(gate),
+        gate.check(self.lines())?;
+        enough_places(1, self.free())?;
+        if self.held == Some(gate) {
+            self.held = None;
+        } else if let Some(held) = self.held.replace(gate) {
+            // Below is sure to take it.
+            let _ = self.below.take(held);
         }
         Ok(())
     }

@@ -1,5 +1,6 @@
 // Small facts that the contracts give: a canceller where places run out, and memory after a gate list has ended.
-ghost use Rattle.std.specs.Prelude.{◌≡◌, true, Ok, Err};
+ghost use Rattle.std.specs.Prelude.{◌≡◌, ◌-◌, ◌≤◌, true, length, Ok, Err};
+ghost use Rattle.gates.specs.Refusals.{answer, short};
 ghost use Rattle.gates.specs.declared.refusal.Refusal.TheVariants.{TooFewPlaces};
 
 use crate::canceller::Canceller;
@@ -18,20 +19,16 @@ const GATE: Cnot = Cnot {
 pub fn over_one_place() -> (Result<(), Refusal>, usize, Result<(), Refusal>)
     ensures { result ≡ (Ok tt, 0, Err (TooFewPlaces 1 0)) }
 {
-    let mut places = [GATE; 1];
-    let mut list = GateList::new(&mut places);
-    let _ = list.restart(2);
-    twice_with_one(list, GATE)
+    let (first, between, second, _) = twice_over(&mut [GATE; 1]);
+    (first, between, second)
 }
 
 // Over two places: a gate is accepted twice, both vanish, and two places are free.
 pub fn over_two_places() -> (Result<(), Refusal>, Result<(), Refusal>, usize)
     ensures { result ≡ (Ok tt, Ok tt, 2) }
 {
-    let mut places = [GATE; 2];
-    let mut list = GateList::new(&mut places);
-    let _ = list.restart(2);
-    twice_with_two(list, GATE)
+    let (first, _, second, after) = twice_over(&mut [GATE; 2]);
+    (first, second, after)
 }
 
 // A gate list ends, and the caller's memory holds the gate that it took, and is as it was in every other place.
@@ -51,31 +48,34 @@ pub fn memory_after_a_list() -> (Cnot, Cnot)
     (places[0], places[1])
 }
 
-fn twice_with_one<G: Gate, T: Taker<G> + Drop>(
-    below: T,
-    gate: G,
-) -> (Result<(), Refusal>, usize, Result<(), Refusal>)
-    requires legal { G.Gate.kind.legal (T.Taker.meaning below).lines gate ≡ true }
-    requires room { (T.Taker.meaning below).free ≡ 1 }
-    ensures { result ≡ (Ok tt, 0, Err (TooFewPlaces 1 0)) }
+// A gate is fed twice to a canceller over a list with these places.
+fn twice_over(places: &mut [Cnot]) -> (Result<(), Refusal>, usize, Result<(), Refusal>, usize)
+    requires { 1 ≤ length places.old }
+    ensures first { result.0 ≡ Ok tt }
+    ensures between { result.1 ≡ length places.old - 1 }
+    ensures second { result.2 ≡ answer (short 1 (length places.old - 1)) }
+    ensures after { 2 ≤ length places.old → result.3 ≡ length places.old }
 {
-    let mut canceller = Canceller::new(below);
-    let first = canceller.take(gate);
-    let free = canceller.free();
-    let second = canceller.take(gate);
-    (first, free, second)
+    let mut list = GateList::new(places);
+    let _ = list.restart(2);
+    twice(list, GATE)
 }
 
-fn twice_with_two<G: Gate, T: Taker<G> + Drop>(
+// A gate is fed twice to a canceller over this taker. The free places are told after each time.
+fn twice<G: Gate, T: Taker<G> + Drop>(
     below: T,
     gate: G,
-) -> (Result<(), Refusal>, Result<(), Refusal>, usize)
+) -> (Result<(), Refusal>, usize, Result<(), Refusal>, usize)
     requires legal { G.Gate.kind.legal (T.Taker.meaning below).lines gate ≡ true }
-    requires room { (T.Taker.meaning below).free ≡ 2 }
-    ensures { result ≡ (Ok tt, Ok tt, 2) }
+    requires room { 1 ≤ (T.Taker.meaning below).free }
+    ensures first { result.0 ≡ Ok tt }
+    ensures between { result.1 ≡ (T.Taker.meaning below).free - 1 }
+    ensures second { result.2 ≡ answer (short 1 ((T.Taker.meaning below).free - 1)) }
+    ensures after { 2 ≤ (T.Taker.meaning below).free → result.3 ≡ (T.Taker.meaning below).free }
 {
     let mut canceller = Canceller::new(below);
     let first = canceller.take(gate);
+    let between = canceller.free();
     let second = canceller.take(gate);
-    (first, second, canceller.free())
+    (first, between, second, canceller.free())
 }

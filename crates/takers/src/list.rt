@@ -1,14 +1,13 @@
 // The gate list: a taker that keeps its gates in the caller's memory.
-ghost use Rattle.std.specs.Prelude.{◌≡◌, ◌<◌, length, MatchResult};
+ghost use Rattle.std.specs.Prelude.{◌≡◌, ◌<◌, ◌≤◌, length, MatchResult};
 ghost use Rattle.gates.specs.Refusals.{image};
 ghost use Rattle.takers.specs.Meanings.{accept, Fed};
-ghost use Rattle.takers.specs.GateLists.{held, list_meaning, fresh, restarted, restarts, with_gate, Pushed, SameMap};
 
 use crate::taker::Taker;
 use gates::circuit;
 use gates::gate::Gate;
 use gates::probed::Probed;
-use gates::refusal::Refusal;
+use gates::refusal::{Refusal, enough_places};
 use words::is_word;
 
 // The first `used` places hold the gates, in order.
@@ -17,12 +16,15 @@ pub struct GateList<'a, G> {
     places: &'a mut [G],
     used: usize,
     lines: u8,
+    ghost fits: { used ≤ length places.now },
 }
 
 impl<'a, G: Gate> GateList<'a, G> {
+    ghost use Rattle.takers.specs.GateLists.{held, list_meaning, parts, fresh, restarted, restarts, with_gate};
+
     // An empty list on 1 line. All of the memory is places of the list.
     pub fn new(places: &'a mut [G]) -> Self
-        ensures { result ≡ fresh places.entry }
+        ensures { parts result ≡ fresh places.entry }
     {
         GateList {
             places,
@@ -34,9 +36,9 @@ impl<'a, G: Gate> GateList<'a, G> {
     // Empties the list and sets its number of lines.
     pub fn restart(&mut self, lines: u8) -> Result<(), Refusal>
         ensures answer { result ≡ restarts G.Gate.kind lines }
-        ensures after { MatchResult result (λ _. self.new ≡ restarted lines self.old) (λ _. self.new ≡ self.old) }
+        ensures after { MatchResult result (λ _. parts self.new ≡ restarted lines self.old) (λ _. self.new ≡ self.old) }
     {
-        if lines < 1 || lines > G::max_lines() {
+        if !(1..=G::max_lines()).contains(&lines) {
             return Err(Refusal::WrongSize);
         }
         self.used = 0;
@@ -48,11 +50,7 @@ impl<'a, G: Gate> GateList<'a, G> {
     pub fn gates(&self) -> &[G]
         ensures { result.now ≡ held self.now }
     {
-        if self.used < self.places.len() {
-            &self.places[0..self.used]
-        } else {
-            self.places
-        }
+        &self.places[..self.used]
     }
 
     // What the gates make of a word.
@@ -64,9 +62,20 @@ impl<'a, G: Gate> GateList<'a, G> {
         }
         Ok(circuit::image(self.gates(), self.lines, word))
     }
+
+    // Writes a gate at the first unused place.
+    fn push(&mut self, gate: G)
+        requires { self.old.used < length self.old.places.now }
+        ensures { parts self.new ≡ with_gate gate self.old }
+    {
+        self.places[self.used] = gate;
+        self.used += 1;
+    }
 }
 
 impl<'a, G: Probed> GateList<'a, G> {
+    ghost use Rattle.takers.specs.GateLists.{list_meaning, SameMap};
+
     // Whether two lists have the same image of every word.
     pub fn same_map(&self, other: &GateList<G>) -> Result<bool, Refusal>
         ensures { SameMap (list_meaning G.Gate.kind self.now) (list_meaning G.Gate.kind other.now) result }
@@ -79,14 +88,17 @@ impl<'a, G: Probed> GateList<'a, G> {
 }
 
 impl<'a, G: Gate> Taker<G> for GateList<'a, G> {
+    ghost use Rattle.takers.specs.GateLists.{list_meaning, Pushed};
+
     ghost meaning = { list_meaning G.Gate.kind };
 
+    #[tactic(auto, using(gates::specs::CircuitLaws::through_keeps))]
     fn lines(&self) -> u8 {
         self.lines
     }
 
     fn free(&self) -> usize {
-        self.places.len().saturating_sub(self.used)
+        self.places.len() - self.used
     }
 
     fn take(&mut self, gate: G) -> Result<(), Refusal>
@@ -94,25 +106,9 @@ impl<'a, G: Gate> Taker<G> for GateList<'a, G> {
         ensures after { MatchResult result (λ _. Fed G.Gate.kind (list_meaning G.Gate.kind self.old) gate (list_meaning G.Gate.kind self.new)) (λ _. self.new ≡ self.old) }
         ensures gates { MatchResult result (λ _. Pushed gate self.old self.new) (λ _. self.new ≡ self.old) }
     {
-        if !gate.is_legal(self.lines) {
-            return Err(Refusal::IllegalGate);
-        }
-        let free = self.free();
-        if free < 1 {
-            return Err(Refusal::TooFewPlaces { needed: 1, free });
-        }
+        gate.check(self.lines)?;
+        enough_places(1, self.free())?;
         self.push(gate);
         Ok(())
-    }
-}
-
-impl<'a, G: Gate> GateList<'a, G> {
-    // Writes a gate at the first unused place.
-    fn push(&mut self, gate: G)
-        requires { self.old.used < length self.old.places.now }
-        ensures { self.new ≡ with_gate gate self.old }
-    {
-        self.places[self.used] = gate;
-        self.used += 1;
     }
 }

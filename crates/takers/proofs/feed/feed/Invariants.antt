@@ -1,6 +1,6 @@
 use Rattle.std.proofs.Common.{take}
 use Rattle.takers.specs.Meanings.{FedAll}
-use Rattle.takers.proofs.feed.feed_all.Given as goal
+use Rattle.takers.proofs.feed.feed.Given as goal
 
 -- the gates so far are fed
 abbrev pub invariant-loop-gate : goal.invariant-loop-gate
