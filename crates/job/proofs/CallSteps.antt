@@ -1,5 +1,5 @@
 -- A run is answered and done as on paper, and so is any call.
-use Rattle.std.proofs.Common.{◌≡◌, ℕ, ◌+◌, ◌-◌, ◌^◌, ◌≤◌, true, length, Some, None, Err, Option, Result, sym, ap, ◌∙◌, subst, arith, MatchResult}
+use Rattle.std.proofs.Common.{◌≡◌, ℕ, ◌+◌, ◌-◌, ◌^◌, ◌≤◌, true, length, Some, None, Err, Option, Result, sym, ap, ◌∙◌, subst, arith}
 use Rattle.std.proofs.lemmas.Bool.{eq-eqb}
 use Rattle.std.proofs.lemmas.Bool.Decides.{when_true}
 use Rattle.words.specs.Maps.{Identity, Apart}
@@ -9,18 +9,18 @@ use Rattle.gates.specs.Gates.{Kind, Lawful}
 use Rattle.gates.specs.Refusals.{answer, short}
 use Rattle.books.specs.declared.Book.{Book}
 use Rattle.books.specs.Ends.{held, sound}
-use Rattle.books.specs.Books.{ends, places, free, Kept}
+use Rattle.books.specs.Books.{places, free}
 use Rattle.pieces.specs.Meanings.{Meaning}
 use Rattle.pieces.specs.Jobs.{Job, Alike, shown, all_found}
 use Rattle.pieces.specs.Runs.{Plan, RunTells, Ran, gates_legal}
+use Rattle.pieces.proofs.Finding.{alike_trans, all_found_alike, all_found_sound, held_found}
 use Rattle.job.specs.declared.call.Call.{Call}
 use Rattle.job.specs.declared.call.Call.TheVariants.{ByHand, Run}
 use Rattle.job.specs.Paper.{step, calls, call_declines, call_done, RunEnds}
-use Rattle.job.specs.Calls.{RunAnswer, CallAnswer, CallDone}
-use Rattle.job.proofs.AlikeLaws.{alike_trans, all_found_alike}
+use Rattle.job.specs.Calls.{Changes, RunAnswer, CallAnswer, CallDone}
+use Rattle.job.specs.Steps.{Stands, Stepped}
 use Rattle.job.proofs.ApartLaws.{no_clash}
-use Rattle.job.proofs.FoundLaws.{all_found_sound, held_found}
-use Rattle.job.proofs.Standing.{Stands, Stepped, steps, paper_sound}
+use Rattle.job.proofs.Standing.{steps, paper_sound}
 use Rattle.job.proofs.EditSteps.{edit_steps}
 
 -- an accepted run on a piece and a book that stand as j does, told by the plan's gates for the map of j
@@ -64,41 +64,37 @@ module _ {G : Type 0} (K : Kind G) (law : Lawful K) (n : ℕ) (plan : Plan G) (j
         omega (arith, held_found K n (plan.gates n j.map) j, run.few),
       )
 
-module _ {G T : Type 0} (K : Kind G) (law : Lawful K) (n room : ℕ) (meaning : T → Meaning) (p₁ p₂ : T) (b₁ b₂ : Book G) (r : Result (Unit {0}) Refusal)
-    (j : Job G) (before : Stands K n j (meaning p₁) b₁) (full : places b₁ ≡ room) (t : ℕ) (lines : t ≡ n) (plan : Plan G) (apart : Apart (2 ^ n) (meaning p₁).map) where
-  RanOr : Result (Unit {0}) Refusal → Type 0
-  RanOr s = MatchResult s (λ _. Ran K plan (meaning p₁) b₁ (meaning p₂) b₂ × Kept b₁ b₂) (λ _. (p₂ ≡ p₁) × (b₂ ≡ b₁))
+module _ {G T : Type 0} (K : Kind G) (law : Lawful K) (n : ℕ) (meaning : T → Meaning) (p₁ p₂ : T) (b₁ b₂ : Book G) (r : Result (Unit {0}) Refusal)
+    (j : Job G) (before : Stands K n j (meaning p₁) b₁) (plan : Plan G) (apart : Apart (2 ^ n) (meaning p₁).map) where
+  abbrev RanOr : Result (Unit {0}) Refusal → Type 0
+  RanOr s = Changes (CallDone K plan Run) meaning s p₁ b₁ p₂ b₂
 
-  run_told : RunAnswer plan t (meaning p₁) b₁ r → r ≡ answer (call_declines K n plan room Run j)
+  run_told : RunAnswer plan n (meaning p₁) b₁ r → r ≡ answer (call_declines K n plan (places b₁) Run j)
   run_told tells =
       let m = meaning p₁ in
-      let told : RunTells plan m b₁ r = when_true (RunTells plan m b₁ r) (r ≡ Err LinesDiffer) (eq-eqb t m.lines (lines ∙ sym before.same_lines)) tells in
+      let told : RunTells plan m b₁ r = when_true (RunTells plan m b₁ r) (r ≡ Err LinesDiffer) (eq-eqb n m.lines (sym before.same_lines)) tells in
       let apart' : Apart (2 ^ m.lines) m.map = subst (λ (k : ℕ). Apart (2 ^ k) m.map) (sym before.same_lines) apart in
       told.2 ∙ ap answer (no_clash m.lines m.map apart' told.0 told.1 (short (plan.budget m.lines) (free b₁)))
       ∙ ap (λ (k : ℕ). answer (short (plan.budget k) (free b₁))) before.same_lines
-      ∙ ap (λ (k : ℕ). answer (short (plan.budget n) (k - held (ends b₁)))) full
-      ∙ ap (λ es. answer (short (plan.budget n) (room - held es))) before.alike.ends
+      ∙ ap (λ es. answer (short (plan.budget n) (places b₁ - held es))) before.alike.ends
 
   ended : (o : Option Refusal) → RanOr (answer o) → o ≡ None →
       Identity n (call_done K n plan Run j).map × (held (call_done K n plan Run j).ends ≤ held j.ends + plan.budget n)
-  unfolding RanOr
   ended None ran e = run_ends K law n plan j (meaning p₁) (meaning p₂) b₁ b₂ before ran.0
-  ended (Some why) same e = let z : ◌≡◌ {A = ℕ} 0 1 = cc in absurd (omega arith)
+  ended (Some why) same e = absurd (cc)
 
-  run_steps : RunAnswer plan t (meaning p₁) b₁ r → RanOr r →
-      Stepped K n (call_declines K n plan room Run j) (step (calls K n plan room) Run j) r (meaning p₂) b₁ b₂ × RunEnds K n plan room Run j
-  unfolding RanOr
+  run_steps : RunAnswer plan n (meaning p₁) b₁ r → RanOr r →
+      Stepped K n (call_declines K n plan (places b₁) Run j) (step (calls K n plan (places b₁)) Run j) r (meaning p₂) b₁ b₂ × RunEnds K n plan (places b₁) Run j
   run_steps tells after =
-      let o = call_declines K n plan room Run j in
+      let o = call_declines K n plan (places b₁) Run j in
       let told = run_told tells in (
-        steps K n meaning p₁ p₂ b₁ b₂ r j (call_done K n plan Run j) o told before (Ran K plan (meaning p₁) b₁ (meaning p₂) b₂ × Kept b₁ b₂)
+        steps K n meaning p₁ p₂ b₁ b₂ r j (call_done K n plan Run j) o told before (CallDone K plan Run)
             (λ none ran. (run_stands K law n plan j (meaning p₁) (meaning p₂) b₁ b₂ before ran.0, ran.1)) after,
         ended o (subst RanOr told after),
       )
 
-  pub call_steps : (c : Call G) → CallAnswer K plan t c (meaning p₁) b₁ r →
-      MatchResult r (λ _. CallDone K plan c (meaning p₁) b₁ (meaning p₂) b₂) (λ _. (p₂ ≡ p₁) × (b₂ ≡ b₁)) →
-      Stepped K n (call_declines K n plan room c j) (step (calls K n plan room) c j) r (meaning p₂) b₁ b₂ × RunEnds K n plan room c j
-  unfolding RanOr
-  call_steps (ByHand c) told after = (edit_steps K law n room meaning p₁ p₂ b₁ b₂ r j before full t lines c told after, tt)
+  pub call_steps : (c : Call G) → CallAnswer K plan n c (meaning p₁) b₁ r →
+      Changes (CallDone K plan c) meaning r p₁ b₁ p₂ b₂ →
+      Stepped K n (call_declines K n plan (places b₁) c j) (step (calls K n plan (places b₁)) c j) r (meaning p₂) b₁ b₂ × RunEnds K n plan (places b₁) c j
+  call_steps (ByHand c) told after = (edit_steps K law n meaning p₁ p₂ b₁ b₂ r j before c told after, tt)
   call_steps Run told after = run_steps told after

@@ -1,5 +1,5 @@
 -- After a declined delivery the ticket handed back is the job's own, and giving up is not declined.
-use Rattle.std.proofs.Common.{◌≡◌, ℕ, Bool, true, false, eqb, Some, None, Err, MatchBool, Option, Result, ap, ◌∙◌, arith}
+use Rattle.std.proofs.Common.{◌≡◌, ℕ, Bool, true, false, eqb, Some, None, Err, MatchBool, Option, Result, ap, ◌∙◌}
 use Rattle.gates.specs.declared.refusal.Refusal.{Refusal}
 use Rattle.gates.specs.declared.refusal.Refusal.TheVariants.{LinesDiffer}
 use Rattle.gates.specs.Gates.{Kind}
@@ -21,13 +21,13 @@ same_ticket : (t u : Ticket) (why w : Refusal) → ◌≡◌ {A = Result (Unit {
 same_ticket t u why w e = let p : ◌≡◌ {A = Ticket × Refusal} (t, why) (u, w) = cc in ap (λ q. q.0) p
 
 handed_back : (t u : Ticket) (why : Refusal) (o : Option Refusal) → Err (t, why) ≡ handed u o → t ≡ u
-handed_back t u why None e = let z : ◌≡◌ {A = ℕ} 0 1 = cc in absurd (omega arith)
+handed_back t u why None e = cc
 handed_back t u why (Some w) e = same_ticket t u why w e
 
 -- giving up after a giving-up that is in order
 pub never_declined : (t u : Ticket) (why : Refusal) (o : Option Refusal) → o ≡ None → Err (t, why) ≡ handed u o → ⊥
-never_declined t u why None is e = let z : ◌≡◌ {A = ℕ} 0 1 = cc in omega arith
-never_declined t u why (Some w) is e = let z : ◌≡◌ {A = ℕ} 0 1 = cc in omega arith
+never_declined t u why None is e = cc
+never_declined t u why (Some w) is e = cc
 
 module _ {G T : Type 0} (K : Kind G) (meaning : T → TakerMeaning) (m : Meaning) (j : Job G) (m' : Meaning) (b' : Book G) (s s' : T) (t : Ticket) (why : Refusal)
     (h : HandedOver K meaning m j m' b' s s' (Err (t, why))) where

@@ -1,5 +1,5 @@
 -- A gate found or taken back is answered and done as on paper.
-use Rattle.std.proofs.Common.{◌≡◌, ℕ, true, Some, None, Option, Result, sym, refl, ap, ◌∙◌, subst, ⊎_elim, arith, MatchResult}
+use Rattle.std.proofs.Common.{◌≡◌, ℕ, true, Some, None, Option, Result, sym, refl, ap, ◌∙◌, subst, ⊎_elim}
 use Rattle.std.proofs.lemmas.Bool.{cond-false, cases_Bool}
 use Rattle.gates.specs.declared.refusal.Refusal.{Refusal}
 use Rattle.gates.specs.declared.refusal.Refusal.TheVariants.{IllegalGate}
@@ -12,13 +12,15 @@ use Rattle.books.specs.Books.{ends, places}
 use Rattle.books.proofs.Sound.{sound_put, sound_strike}
 use Rattle.pieces.specs.Meanings.{Meaning}
 use Rattle.pieces.specs.Jobs.{Job, Alike, shown}
+use Rattle.pieces.proofs.Finding.{alike_trans}
 use Rattle.job.specs.declared.call.Edit.{Edit}
 use Rattle.job.specs.declared.call.Edit.TheVariants.{Put, TakeBack}
 use Rattle.job.specs.Paper.{unless_some, declines, taken, done, step, edits}
-use Rattle.job.specs.Calls.{against, Edited}
+use Rattle.job.specs.Calls.{Changes, against, Edited}
+use Rattle.job.specs.Steps.{Stands, Stepped}
 use Rattle.job.proofs.Reasons.{lines_agree, spoilt_none}
-use Rattle.job.proofs.AlikeLaws.{alike_trans, done_alike}
-use Rattle.job.proofs.Standing.{Stands, Stepped, steps, paper_sound}
+use Rattle.job.proofs.AlikeLaws.{done_alike}
+use Rattle.job.proofs.Standing.{steps, paper_sound}
 
 module _ {G : Type 0} (K : Kind G) (n room : ℕ) where
   against_paper : (c : Edit G) (es : Ends G) → sound K n es ≡ true → against K n n room c es ≡ declines K n room c es
@@ -36,24 +38,23 @@ module _ {G : Type 0} (K : Kind G) (n room : ℕ) where
       ⊎_elim (λ p. sound_put K n e g j.ends h p)
       (λ p.
       let why : declines K n room (Put e g) j.ends ≡ Some IllegalGate = cond-false (K.legal n g) _ _ p in
-      let z : ◌≡◌ {A = ℕ} 0 1 = cc in absurd (omega arith))
+      absurd (cc))
       (cases_Bool (K.legal n g))
   done_sound (TakeBack e) j a h = take_sound (last (found e j.ends)) e j refl a h
 
-module _ {G T : Type 0} (K : Kind G) (law : Lawful K) (n room : ℕ) (meaning : T → Meaning) (p₁ p₂ : T) (b₁ b₂ : Book G) (r : Result (Unit {0}) Refusal)
-    (j : Job G) (before : Stands K n j (meaning p₁) b₁) (full : places b₁ ≡ room) (t : ℕ) (lines : t ≡ n) where
-  pub edit_steps : (c : Edit G) → r ≡ answer (against K t (meaning p₁).lines (places b₁) c (ends b₁)) →
-      MatchResult r (λ _. Edited K c (meaning p₁) b₁ (meaning p₂) b₂) (λ _. (p₂ ≡ p₁) × (b₂ ≡ b₁)) →
-      Stepped K n (declines K n room c j.ends) (step (edits K n room) c j) r (meaning p₂) b₁ b₂
+module _ {G T : Type 0} (K : Kind G) (law : Lawful K) (n : ℕ) (meaning : T → Meaning) (p₁ p₂ : T) (b₁ b₂ : Book G) (r : Result (Unit {0}) Refusal)
+    (j : Job G) (before : Stands K n j (meaning p₁) b₁) where
+  pub edit_steps : (c : Edit G) → r ≡ answer (against K n (meaning p₁).lines (places b₁) c (ends b₁)) →
+      Changes (Edited K c) meaning r p₁ b₁ p₂ b₂ →
+      Stepped K n (declines K n (places b₁) c j.ends) (step (edits K n (places b₁)) c j) r (meaning p₂) b₁ b₂
   edit_steps c told after =
+      let room = places b₁ in
       let good = paper_sound K n j (meaning p₁) b₁ before in
-      let why : against K t (meaning p₁).lines (places b₁) c (ends b₁) ≡ declines K n room c j.ends =
-      ap (λ (k : ℕ). against K k (meaning p₁).lines (places b₁) c (ends b₁)) lines
-      ∙ ap (λ (k : ℕ). against K n k (places b₁) c (ends b₁)) before.same_lines
-      ∙ ap (λ (k : ℕ). against K n n k c (ends b₁)) full
+      let why : against K n (meaning p₁).lines room c (ends b₁) ≡ declines K n room c j.ends =
+      ap (λ (k : ℕ). against K n k room c (ends b₁)) before.same_lines
       ∙ ap (against K n n room c) before.alike.ends ∙ against_paper K n room c j.ends good in
       steps K n meaning p₁ p₂ b₁ b₂ r j (done K n c j) (declines K n room c j.ends) (told ∙ ap answer why) before
-      (Edited K c (meaning p₁) b₁ (meaning p₂) b₂)
+      (Edited K c)
       (λ none d.
       let here : Alike n (shown (meaning p₂) b₂) (done K n c (shown (meaning p₁) b₁)) =
       subst (λ (k : ℕ). Alike k (shown (meaning p₂) b₂) (done K k c (shown (meaning p₁) b₁))) before.same_lines d.job in

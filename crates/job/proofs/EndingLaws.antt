@@ -2,6 +2,7 @@
 use Rattle.std.proofs.Common.{◌≡◌, ℕ, Bool, true, false, not, eqb, List, None, Ok, Err, MatchBool, Result, sym, refl, ap, ◌∙◌, subst, MatchResult}
 use Rattle.std.proofs.lemmas.Bool.{eq-eqb}
 use Rattle.std.proofs.lemmas.Bool.Decides.{when_true}
+use Rattle.std.proofs.lemmas.Result.{MatchResult-weaker}
 use Rattle.words.specs.Maps.{Same, Keeps, Identity}
 use Rattle.gates.specs.declared.refusal.Refusal.{Refusal}
 use Rattle.gates.specs.declared.refusal.Refusal.TheVariants.{LinesDiffer, IllegalGate, NotIdentity}
@@ -20,18 +21,14 @@ use Rattle.job.specs.declared.conduct.Ending.{Ending}
 use Rattle.job.specs.declared.conduct.Ending.TheVariants.{Deliver, GiveUp}
 use Rattle.job.specs.Paper.{Rules, played}
 use Rattle.job.specs.Calls.{Ready, DeliveryAnswer, Delivered, GivenUp, handed, spoilt}
-use Rattle.job.specs.Endings.{ticket, Withdrawn, Accepted, Declined, HandedOver, Ended}
+use Rattle.job.specs.Endings.{ticket, Withdrawn, Accepted, HandedOver, Ended}
 use Rattle.job.specs.Wholes.{Played, Conducted}
 use Rattle.job.proofs.Reasons.{spoilt_none}
-use Rattle.job.proofs.WholeLaws.{alike_whole}
+use Rattle.job.specs.WholeLaws.{alike_whole}
 
 when_map : (b : Bool) (P P' Q : Type 0) → (P → P') → MatchBool b P Q → MatchBool b P' Q
 when_map true P P' Q f p = f p
 when_map false P P' Q f q = q
-
-cases_map : {X E : Type 0} (P P' Q Q' : Type 0) → (P → P') → (Q → Q') → (r : Result X E) → MatchResult r (λ _. P) (λ _. Q) → MatchResult r (λ _. P') (λ _. Q')
-cases_map P P' Q Q' f g (Ok x) p = f p
-cases_map P P' Q Q' f g (Err e) q = g q
 
 cases_both : {X E : Type 0} (P Q Z : Type 0) → (P → Z) → (Q → Z) → (r : Result X E) → MatchResult r (λ _. P) (λ _. Q) → Z
 cases_both P Q Z f g (Ok x) p = f p
@@ -131,8 +128,7 @@ module _ {C G T : Type 0} (K : Kind G) (law : Lawful K) (R : Rules C G) (P : C �
           answer = when_map (eqb n (meaning s).lines) (MatchBool (sound K n (ends b₁)) (Ready u n m₁.map (ends b₁) free e) (e ≡ Err (u, IllegalGate))) (Ready u n j.map j.ends free e) (e ≡ Err (u, LinesDiffer))
               (λ w. ready_alike n u m₁.map j.map (ends b₁) j.ends free e p.job.map p.job.ends (when_true (Ready u n m₁.map (ends b₁) free e) (e ≡ Err (u, IllegalGate)) p.legal w))
               left;
-          after = cases_map (Delivered K m₁ b₁ b₂ (meaning s) (meaning s')) Takes ((b₂ ≡ b₁) × (s' ≡ s)) (Declined K meaning m j m₁ b₂ s s' e)
-              accepted_delivery (λ q. record { job = subst (λ c. Alike n (shown m₁ c) j) (sym q.0) p.job; untouched = q.1 }) e after;
+          after = MatchResult-weaker e after (λ _ d. accepted_delivery d) (λ _ q. record { job = subst (λ c. Alike n (shown m₁ c) j) (sym q.0) p.job; untouched = q.1 });
         }
 
     pub delivered : (ending : Ending) → ending ≡ Deliver → Conducted K R P m b ss ss' m₁ b₂ meaning s s' ending e

@@ -1,13 +1,9 @@
 pub mod Reasons
-pub mod WholeLaws
-pub mod Legality
 pub mod Giving
 pub mod Edits
 pub mod Taking
 pub mod Deliveries
-pub mod CallWholes
 pub mod AlikeLaws
-pub mod FoundLaws
 pub mod ApartLaws
 pub mod Standing
 pub mod EditSteps

@@ -1,4 +1,4 @@
--- Taking back every gate of an end, and of both.
+-- Taking back every gate of an end.
 use Rattle.std.proofs.Common.{◌≡◌, ℕ, ◌<◌, List, [], ◌∷◌, length, Some, None, sym, refl, ap, ◌∙◌, subst, arith}
 use Rattle.std.proofs.lemmas.List.{length_push}
 use Rattle.words.specs.Maps.{Same}
@@ -6,15 +6,14 @@ use Rattle.gates.specs.declared.end.End.{End}
 use Rattle.gates.specs.declared.end.End.TheVariants.{Input, Output}
 use Rattle.gates.specs.Gates.{Kind, Lawful}
 use Rattle.books.specs.declared.Book.{Book}
-use Rattle.books.specs.Ends.{Ends, empty, emptied, found, strike, last, front}
+use Rattle.books.specs.Ends.{Ends, emptied, found, strike, last, front}
 use Rattle.books.specs.Books.{ends, Kept}
 use Rattle.books.proofs.EndLaws.{ends_same, last_split}
 use Rattle.books.proofs.KeptLaws.{kept_none, kept_more}
 use Rattle.pieces.specs.Meanings.{Meaning, moved, Moved}
 use Rattle.pieces.specs.Jobs.{whole, shown}
 use Rattle.job.specs.Paper.{taken}
-use Rattle.job.specs.Calls.{GivenUp}
-use Rattle.job.proofs.WholeLaws.{alike_whole, taken_whole}
+use Rattle.job.specs.WholeLaws.{alike_whole, taken_whole}
 
 module _ {G : Type 0} where
   last_none : (xs : List G) → None ≡ last xs → xs ≡ []
@@ -65,19 +64,3 @@ module _ {G : Type 0} (K : Kind G) (e : End) (m : Meaning) (b : Book G) where
 
     pub all_taken : None ≡ last (found e (ends b₁)) → ends b₁ ≡ emptied e (ends b)
     all_taken none = emptied_none e (ends b₁) none ∙ so_far.rest
-
--- both ends emptied: the piece has the map of the whole circuit
-module _ {G : Type 0} (K : Kind G) (m m₁ m₂ : Meaning) (b b₁ b₂ : Book G) where
-  pub given_up : m₁.lines ≡ m.lines → m₂.lines ≡ m₁.lines → ends b₁ ≡ emptied Input (ends b) → ends b₂ ≡ emptied Output (ends b₁) →
-      Same m.lines (whole K m.lines (shown m₁ b₁)) (whole K m.lines (shown m b)) →
-      Same m₁.lines (whole K m₁.lines (shown m₂ b₂)) (whole K m₁.lines (shown m₁ b₁)) →
-      Kept b b₁ → Kept b₁ b₂ → GivenUp K m b m₂ b₂
-  given_up l₁ l₂ e₁ e₂ w₁ w₂ k₁ k₂ =
-      let n = m.lines in
-      let none : ends b₂ ≡ empty = e₂ ∙ ap (emptied Output) e₁ in
-      let w : Same n (whole K n (shown m₂ b₂)) (whole K n (shown m₁ b₁)) = subst (λ (k : ℕ). Same k (whole K k (shown m₂ b₂)) (whole K k (shown m₁ b₁))) l₁ w₂ in
-      record {
-        same_lines = l₂ ∙ l₁;
-        job = record { map = λ x h. sym (ap (λ es. whole K n (record { map = m₂.map; ends = es }) x) none) ∙ w x h ∙ w₁ x h; ends = none };
-        kept = kept_more k₁ k₂;
-      }

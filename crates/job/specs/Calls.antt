@@ -1,5 +1,5 @@
 -- What a call answers and does, shown any ticket, piece, book and taker.
-use Rattle.std.specs.Prelude.{◌≡◌, ℕ, ◌^◌, Bool, not, Some, None, Ok, Err, Decides, MatchBool, Option, Result, ◌==◌}
+use Rattle.std.specs.Prelude.{◌≡◌, ℕ, ◌^◌, Bool, not, Some, Ok, Err, Decides, MatchBool, MatchResult, Option, Result, ◌==◌}
 use Rattle.words.specs.Maps.{Same, Keeps, Identity, Apart, Clash}
 use Rattle.gates.specs.declared.refusal.Refusal.{Refusal}
 use Rattle.gates.specs.declared.refusal.Refusal.TheVariants.{LinesDiffer, IllegalGate, SharedImage, NotIdentity}
@@ -32,6 +32,12 @@ pub record Opened {G : Type 0} (m : Meaning) (b b' : Book G) (t : Ticket) : Type
   pub lines : t.lines ≡ m.lines
   pub emptied : ends b' ≡ empty
   pub kept : Kept b b'
+
+-- ---- any call
+
+-- An accepted call changes piece and book as D tells; a declined one leaves both as they were.
+abbrev pub Changes : {G T X E : Type 0} → (Meaning → Book G → Meaning → Book G → Type 0) → (T → Meaning) → Result X E → T → Book G → T → Book G → Type 0
+Changes D meaning r p b p' b' = MatchResult r (λ _. D (meaning p) b (meaning p') b') (λ _. (p' ≡ p) × (b' ≡ b))
 
 -- ---- gates found and taken back
 
@@ -77,10 +83,13 @@ CallDone K plan Run m b m' b' = Ran K plan m b m' b' × Kept b b'
 
 -- ---- delivery
 
--- A declined delivery or giving-up hands the ticket back.
+-- The answer to a delivery or giving-up: an accepted one ends the ticket, and a declined one hands it back.
+abbrev pub ended : Ticket → Result (Unit {0}) Refusal → Result (Unit {0}) (Ticket × Refusal)
+ended t (Ok u) = Ok tt
+ended t (Err why) = Err (t, why)
+
 abbrev pub handed : Ticket → Option Refusal → Result (Unit {0}) (Ticket × Refusal)
-handed t None = Ok tt
-handed t (Some why) = Err (t, why)
+handed t why = ended t (answer why)
 
 -- A delivery whose line counts and gates are in order needs a piece at identity, and a place of the taker for each gate.
 abbrev pub Ready : {G : Type 0} → Ticket → (n : ℕ) → (ℕ → ℕ) → Ends G → (free : ℕ) → Result (Unit {0}) (Ticket × Refusal) → Type 0

@@ -1,17 +1,18 @@
 // A job: a piece and a book, under a ticket that says how many lines the job has.
-ghost use Rattle.std.specs.Prelude.{◌≡◌, None, MatchResult};
+ghost use Rattle.std.specs.Prelude.{◌≡◌, true, None, MatchResult, OnOk};
 ghost use Rattle.gates.specs.Refusals.{answer};
+ghost use Rattle.books.specs.Ends.{sound};
 ghost use Rattle.books.specs.Books.{ends, places, Kept};
 ghost use Rattle.pieces.specs.Runs.{Ran};
 ghost use Rattle.job.specs.declared.call.Edit.TheVariants.{Put, TakeBack};
-ghost use Rattle.job.specs.Calls.{Opens, Opened, against, Edited, RunAnswer, CallAnswer, CallDone, spoilt, handed, GivenUp, DeliveryAnswer, Delivered};
+ghost use Rattle.job.specs.Calls.{Opens, Opened, Changes, against, Edited, RunAnswer, CallAnswer, CallDone, spoilt, handed, ended, GivenUp, DeliveryAnswer, Delivered};
 
 use crate::call::{Call, Edit};
-use crate::work::{all_legal, both_ends, feed_circuit, give, take_all, too_few};
+use crate::work::{check_book, check_lines, feed_circuit, give, take_all};
 use books::Book;
 use gates::end::End;
 use gates::gate::Gate;
-use gates::refusal::Refusal;
+use gates::refusal::{Refusal, enough_places};
 use pieces::piece::Piece;
 use pieces::synthesis::Synthesis;
 use takers::taker::Taker;
@@ -21,6 +22,7 @@ pub struct Ticket {
     lines: u8,
 }
 
+// Piece and book stay two parameters: the caller lends them call by call, and any two of them are answered.
 impl Ticket {
     // Opens a job on this piece. The book is emptied.
     pub fn open<G: Gate, P: Piece<G>>(piece: &P, book: &mut Book<G>) -> Result<Ticket, Refusal>
@@ -44,18 +46,11 @@ impl Ticket {
         gate: G,
     ) -> Result<(), Refusal>
         ensures answer { result ≡ answer (against G.Gate.kind self.now.lines (P.Piece.meaning piece.old).lines (places book.old) (Put end gate) (ends book.old)) }
-        ensures after { MatchResult result (λ _. Edited G.Gate.kind (Put end gate) (P.Piece.meaning piece.old) book.old (P.Piece.meaning piece.new) book.new) (λ _. (piece.new ≡ piece.old) × (book.new ≡ book.old)) }
+        ensures after { Changes (Edited G.Gate.kind (Put end gate)) P.Piece.meaning result piece.old book.old piece.new book.new }
     {
-        if self.lines != piece.lines() {
-            return Err(Refusal::LinesDiffer);
-        }
-        if !gate.is_legal(self.lines) {
-            return Err(Refusal::IllegalGate);
-        }
-        let free = book.free();
-        if too_few(1, free) {
-            return Err(Refusal::TooFewPlaces { needed: 1, free });
-        }
+        check_lines(self.lines, piece.lines())?;
+        gate.check(self.lines)?;
+        enough_places(1, book.free())?;
         give(piece, end, gate)?;
         book.push(end, gate)
     }
@@ -68,18 +63,11 @@ impl Ticket {
         end: End,
     ) -> Result<(), Refusal>
         ensures answer { result ≡ answer (against G.Gate.kind self.now.lines (P.Piece.meaning piece.old).lines (places book.old) (TakeBack end) (ends book.old)) }
-        ensures after { MatchResult result (λ _. Edited G.Gate.kind (TakeBack end) (P.Piece.meaning piece.old) book.old (P.Piece.meaning piece.new) book.new) (λ _. (piece.new ≡ piece.old) × (book.new ≡ book.old)) }
+        ensures after { Changes (Edited G.Gate.kind (TakeBack end)) P.Piece.meaning result piece.old book.old piece.new book.new }
     {
-        if self.lines != piece.lines() {
-            return Err(Refusal::LinesDiffer);
-        }
-        if !all_legal(book, self.lines) {
-            return Err(Refusal::IllegalGate);
-        }
-        match book.pop(end) {
-            None => Err(Refusal::NothingFound),
-            Some(gate) => give(piece, end, gate),
-        }
+        self.check(piece, book)?;
+        let gate = book.pop(end).ok_or(Refusal::NothingFound)?;
+        give(piece, end, gate)
     }
 
     // A gate found or taken back.
@@ -90,7 +78,7 @@ impl Ticket {
         edit: Edit<G>,
     ) -> Result<(), Refusal>
         ensures answer { result ≡ answer (against G.Gate.kind self.now.lines (P.Piece.meaning piece.old).lines (places book.old) edit (ends book.old)) }
-        ensures after { MatchResult result (λ _. Edited G.Gate.kind edit (P.Piece.meaning piece.old) book.old (P.Piece.meaning piece.new) book.new) (λ _. (piece.new ≡ piece.old) × (book.new ≡ book.old)) }
+        ensures after { Changes (Edited G.Gate.kind edit) P.Piece.meaning result piece.old book.old piece.new book.new }
     {
         match edit {
             Edit::Put(end, gate) => self.put(piece, book, end, gate),
@@ -105,11 +93,9 @@ impl Ticket {
         book: &mut Book<G>,
     ) -> Result<(), Refusal>
         ensures answer { RunAnswer P.Synthesis.plan self.now.lines (P.Piece.meaning piece.old) book.old result }
-        ensures after { MatchResult result (λ _. Ran G.Gate.kind P.Synthesis.plan (P.Piece.meaning piece.old) book.old (P.Piece.meaning piece.new) book.new × Kept book.old book.new) (λ _. (piece.new ≡ piece.old) × (book.new ≡ book.old)) }
+        ensures after { Changes (λ m b m' b'. Ran G.Gate.kind P.Synthesis.plan m b m' b' × Kept b b') P.Piece.meaning result piece.old book.old piece.new book.new }
     {
-        if self.lines != piece.lines() {
-            return Err(Refusal::LinesDiffer);
-        }
+        check_lines(self.lines, piece.lines())?;
         piece.run(book)
     }
 
@@ -121,7 +107,7 @@ impl Ticket {
         call: Call<G>,
     ) -> Result<(), Refusal>
         ensures answer { CallAnswer G.Gate.kind P.Synthesis.plan self.now.lines call (P.Piece.meaning piece.old) book.old result }
-        ensures after { MatchResult result (λ _. CallDone G.Gate.kind P.Synthesis.plan call (P.Piece.meaning piece.old) book.old (P.Piece.meaning piece.new) book.new) (λ _. (piece.new ≡ piece.old) × (book.new ≡ book.old)) }
+        ensures after { Changes (CallDone G.Gate.kind P.Synthesis.plan call) P.Piece.meaning result piece.old book.old piece.new book.new }
     {
         match call {
             Call::ByHand(edit) => self.edit(piece, book, edit),
@@ -136,19 +122,10 @@ impl Ticket {
         book: &mut Book<G>,
     ) -> Result<(), (Ticket, Refusal)>
         ensures answer { result ≡ handed self (spoilt G.Gate.kind self.lines (P.Piece.meaning piece.old).lines (ends book.old) None) }
-        ensures after { MatchResult result (λ _. GivenUp G.Gate.kind (P.Piece.meaning piece.old) book.old (P.Piece.meaning piece.new) book.new) (λ _. (piece.new ≡ piece.old) × (book.new ≡ book.old)) }
+        ensures after { Changes (GivenUp G.Gate.kind) P.Piece.meaning result piece.old book.old piece.new book.new }
     {
-        if self.lines != piece.lines() {
-            return Err((self, Refusal::LinesDiffer));
-        }
-        if !all_legal(book, self.lines) {
-            return Err((self, Refusal::IllegalGate));
-        }
-        let (first, second) = both_ends();
-        take_all(piece, book, first);
-        take_all(piece, book, second);
-        let Ticket { lines: _ } = self;
-        Ok(())
+        let answer = self.withdraw(piece, book);
+        self.end(answer)
     }
 
     // Feeds the taker the gates of the book in circuit order, empties the book and ends the ticket.
@@ -161,27 +138,68 @@ impl Ticket {
         ensures answer { DeliveryAnswer G.Gate.kind self (P.Piece.meaning piece.now) (ends book.old) (T.Taker.meaning taker.old) result }
         ensures after { MatchResult result (λ _. Delivered G.Gate.kind (P.Piece.meaning piece.now) book.old book.new (T.Taker.meaning taker.old) (T.Taker.meaning taker.new)) (λ _. (book.new ≡ book.old) × (taker.new ≡ taker.old)) }
     {
-        let n = piece.lines();
-        if self.lines != n {
-            return Err((self, Refusal::LinesDiffer));
-        }
-        if n != taker.lines() {
-            return Err((self, Refusal::LinesDiffer));
-        }
-        if !all_legal(book, self.lines) {
-            return Err((self, Refusal::IllegalGate));
-        }
+        let answer = self.hand_over(piece, book, taker);
+        self.end(answer)
+    }
+
+    // Declines a piece on other lines, and then a book that holds an illegal gate.
+    fn check<G: Gate, P: Piece<G>>(&self, piece: &P, book: &Book<G>) -> Result<(), Refusal>
+        ensures answer { result ≡ answer (spoilt G.Gate.kind self.now.lines (P.Piece.meaning piece.now).lines (ends book.now) None) }
+        ensures same { OnOk result (self.now.lines ≡ (P.Piece.meaning piece.now).lines) }
+        ensures legal { OnOk result (sound G.Gate.kind self.now.lines (ends book.now) ≡ true) }
+    {
+        check_lines(self.lines, piece.lines())?;
+        check_book(book, self.lines)
+    }
+
+    // Takes every gate back.
+    fn withdraw<G: Gate, P: Piece<G>>(
+        &self,
+        piece: &mut P,
+        book: &mut Book<G>,
+    ) -> Result<(), Refusal>
+        ensures answer { result ≡ answer (spoilt G.Gate.kind self.now.lines (P.Piece.meaning piece.old).lines (ends book.old) None) }
+        ensures after { Changes (GivenUp G.Gate.kind) P.Piece.meaning result piece.old book.old piece.new book.new }
+    {
+        self.check(piece, book)?;
+        take_all(piece, book, End::Input);
+        take_all(piece, book, End::Output);
+        Ok(())
+    }
+
+    // Feeds the taker the gates of the book in circuit order, and empties the book.
+    fn hand_over<G: Gate, P: Piece<G>, T: Taker<G>>(
+        &self,
+        piece: &P,
+        book: &mut Book<G>,
+        taker: &mut T,
+    ) -> Result<(), Refusal>
+        ensures answer { DeliveryAnswer G.Gate.kind self.now (P.Piece.meaning piece.now) (ends book.old) (T.Taker.meaning taker.old) (ended self.now result) }
+        ensures after { MatchResult result (λ _. Delivered G.Gate.kind (P.Piece.meaning piece.now) book.old book.new (T.Taker.meaning taker.old) (T.Taker.meaning taker.new)) (λ _. (book.new ≡ book.old) × (taker.new ≡ taker.old)) }
+    {
+        check_lines(self.lines, piece.lines())?;
+        check_lines(piece.lines(), taker.lines())?;
+        check_book(book, self.lines)?;
         if !piece.is_identity() {
-            return Err((self, Refusal::NotIdentity));
+            return Err(Refusal::NotIdentity);
         }
-        let needed = book.len();
-        let free = taker.free();
-        if too_few(needed, free) {
-            return Err((self, Refusal::TooFewPlaces { needed, free }));
-        }
+        enough_places(book.len(), taker.free())?;
         feed_circuit(book, taker);
         book.clear();
-        let Ticket { lines: _ } = self;
         Ok(())
+    }
+
+    // Ends the ticket, or hands it back with the reason.
+    fn end(self, answer: Result<(), Refusal>) -> Result<(), (Ticket, Refusal)>
+        ensures { result ≡ ended self answer }
+    {
+        // Not `map_err`: its closure would hold the ticket, and only what is `Drop` may be held.
+        match answer {
+            Ok(()) => {
+                let Ticket { lines: _ } = self;
+                Ok(())
+            }
+            Err(why) => Err((self, why)),
+        }
     }
 }

@@ -1,40 +1,32 @@
-use Rattle.std.proofs.Common.{◌≡◌, refl}
+use Rattle.std.proofs.Common.{◌≡◌}
 use Rattle.books.specs.Books.{places}
-use Rattle.job.specs.Paper.{calls, RunEnds}
 use Rattle.job.proofs.EndingLaws.{delivered, given_up}
 use Rattle.job.proofs.conduct.conduct.Goals as goal
 
 pub returns-in-Deliver : goal.returns-in-Deliver
 returns-in-Deliver g c =
-    let K = g.G.Gate.kind in
     let m = g.P.Piece.meaning c.args.piece.now in
-    let plan = g.P.Synthesis.plan in
     let b = c.args.book.now in
-    let R = calls K m.lines plan (places b) in
-    let P = RunEnds K m.lines plan (places b) in
-    let played = c.in-Ok.ensures in (
+    let room = places b in
+    let played = c.in_ok-ticket.ensures in (
       played.0,
-      delivered K g.met.G.Gate.lawful R P m b c.args.steps.now c.play.new.steps (g.P.Piece.meaning c.play.new.piece) c.play.new.book c.in-Ok.ticket played.1 g.T.Taker.meaning c.args.taker.now
+      delivered g.G.Gate.kind g.met.G.Gate.lawful (g.C.Playable.rules m.lines room) (g.C.Playable.gives m.lines room) m b c.args.steps.now c.play.new.steps
+          (g.P.Piece.meaning c.play.new.piece) c.play.new.book c.in_ok-ticket.ticket played.1 g.T.Taker.meaning c.args.taker.now
           c.deliver.new.book c.deliver.new.taker c.deliver.result c.deliver.ensures.answer c.deliver.ensures.after c.args.ending c.in-Deliver.is,
     )
 
 pub returns-in-GiveUp : goal.returns-in-GiveUp
 returns-in-GiveUp g c =
-    let K = g.G.Gate.kind in
     let m = g.P.Piece.meaning c.args.piece.now in
-    let plan = g.P.Synthesis.plan in
     let b = c.args.book.now in
-    let R = calls K m.lines plan (places b) in
-    let P = RunEnds K m.lines plan (places b) in
-    let played = c.in-Ok.ensures in
+    let room = places b in
+    let played = c.in_ok-ticket.ensures in
     let p₁ = c.play.new.piece in
     let b₁ = c.play.new.book in
     let p₂ = c.give_up.new.piece in
     let b₂ = c.give_up.new.book in (
       played.0,
-      given_up K g.met.G.Gate.lawful R P m b c.args.steps.now c.play.new.steps (g.P.Piece.meaning p₁) b₁ c.in-Ok.ticket played.1 g.T.Taker.meaning c.args.taker.now
+      given_up g.G.Gate.kind g.met.G.Gate.lawful (g.C.Playable.rules m.lines room) (g.C.Playable.gives m.lines room) m b c.args.steps.now c.play.new.steps
+          (g.P.Piece.meaning p₁) b₁ c.in_ok-ticket.ticket played.1 g.T.Taker.meaning c.args.taker.now
           ((p₂ ≡ p₁) × (b₂ ≡ b₁)) (g.P.Piece.meaning p₂) b₂ c.give_up.result c.give_up.ensures.answer c.give_up.ensures.after c.args.ending c.in-GiveUp.is,
     )
-
-pub returns-in-Err : goal.returns-in-Err
-returns-in-Err g c = let e = c.in-Err.ensures in (e.0, (e.1.0, e.1.1, e.1.2, refl))

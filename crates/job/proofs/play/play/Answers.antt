@@ -1,71 +1,32 @@
-use Rattle.std.proofs.Common.{ℕ, ◌<◌, ◌≤◌, length, get_or, refl, ap, subst, arith, rules}
-use borrow.Author.Rules.{scaled_Fits}
-use Rattle.books.specs.Books.{places}
-use Rattle.job.specs.Paper.{calls, RunEnds}
-use Rattle.job.specs.Wholes.{Played}
-use Rattle.job.proofs.CallWholes.{call_whole}
-use Rattle.job.proofs.CallSteps.{call_steps}
-use Rattle.job.proofs.Playing.{playing_none, playing_apart, playing_next, playing_all}
+use Rattle.std.proofs.Common.{◌<◌, ◌≤◌, length, get_or, ap, arith}
+use Rattle.job.proofs.Playing.{playing_none, playing_next, playing_all}
 use Rattle.job.proofs.play.play.Goals as goal
 
-pub loop-at-init : goal.loop-at-init
-loop-at-init g c =
-    let K = g.G.Gate.kind in
-    let m = g.P.Piece.meaning c.args.piece.now in
-    let plan = g.P.Synthesis.plan in
-    let b = c.open.new.book in
-    playing_none K (calls K m.lines plan (places b)) (RunEnds K m.lines plan (places b)) m b c.args.steps.now c.in-Ok.ensures.1.emptied
+pub loop-step-init : goal.loop-step-init
+loop-step-init g c =
+    playing_none g.G.Gate.kind g.C.Playable.rules g.C.Playable.gives (g.P.Piece.meaning c.args.piece.now) c.open.new.book c.args.steps.now
+    c.in_ok-ticket.ensures.1.emptied
 
-pub loop-at-preserved : goal.loop-at-preserved
-loop-at-preserved g c =
-    let K = g.G.Gate.kind in
-    let law = g.met.G.Gate.lawful in
-    let m = g.P.Piece.meaning c.args.piece.now in
-    let plan = g.P.Synthesis.plan in
-    let b = c.open.new.book in
-    let room = places b in
-    let R = calls K m.lines plan room in
-    let P = RunEnds K m.lines plan room in
-    let ss = c.args.steps.now in
-    let at = c.loop-at.at in
-    let ss' = c.loop-at.steps in
-    let m₁ = g.P.Piece.meaning c.loop-at.piece in
-    let b₁ = c.loop-at.book in
-    let p = c.loop-at.invariant in
-    let opening = c.in-Ok.ensures in
-    let r = c.call-answer.result in
-    let b₂ = c.call-answer.new.book in
-    let s = get_or ss' at c.index-steps-at.result in
+pub loop-step-preserved : goal.loop-step-preserved
+loop-step-preserved g c =
+    let meaning = g.P.Piece.meaning in
+    let opening = c.in_ok-ticket.ensures in
+    let at = c.loop-step.step-index in
+    let ss' = c.loop-step.steps in
+    let s = get_or ss' at c.step-item.result in
     let h : at < length ss' = omega arith in
-    let apart = playing_apart K R P m b ss law at ss' m₁ b₁ p opening.0 in
-    let done = call_steps K law m.lines room g.P.Piece.meaning c.loop-at.piece c.call-answer.new.piece b₁ b₂ r p.paper p.stands p.kept.room c.in-Ok.ticket.lines opening.1.lines plan apart s.call c.call-answer.ensures.answer c.call-answer.ensures.after in
-    playing_next K R P m b ss law at ss' m₁ b₁ p (call_whole K law m.lines plan) (g.P.Piece.meaning c.call-answer.new.piece) b₂ s r h (ap (get_or ss' at) c.index-steps-at.is) done.0 done.1
+    playing_next g.G.Gate.kind g.C.Playable.rules g.C.Playable.gives (meaning c.args.piece.now) c.open.new.book c.args.steps.now
+    g.met.G.Gate.lawful c.in_ok-ticket.ticket c.args.book.now opening.1 at ss' (meaning c.loop-step.piece) c.loop-step.book c.loop-step.invariant
+    g.met.C.Playable.keeps_whole opening.0 (meaning c.make-answer.new.piece) c.make-answer.new.book s c.make-answer.result h
+    (ap (get_or ss' at) c.step-item.is) c.make-answer.ensures.plays
 
 pub returns : goal.returns
 returns g c =
-    let K = g.G.Gate.kind in
-    let law = g.met.G.Gate.lawful in
-    let m = g.P.Piece.meaning c.args.piece.now in
-    let plan = g.P.Synthesis.plan in
-    let b = c.open.new.book in
-    let ss = c.args.steps.now in
-    let ss' = c.loop-at.steps in
-    let m' = g.P.Piece.meaning c.loop-at.piece in
-    let b' = c.loop-at.book in
-    let opening = c.in-Ok.ensures in
-    let h : length ss' ≤ c.loop-at.at = omega arith in
-    let all = playing_all K (calls K m.lines plan (places b)) (RunEnds K m.lines plan (places b)) m b ss law c.loop-at.at ss' m' b' c.loop-at.invariant c.in-Ok.ticket c.args.book.now opening.1 h in
-    (opening.0, subst (λ (room : ℕ). Played K (calls K m.lines plan room) (RunEnds K m.lines plan room) m c.args.book.now ss ss' m' b' c.in-Ok.ticket) opening.1.kept.room all)
-
-pub returns-in-Err : goal.returns-in-Err
-returns-in-Err g c = let e = c.in-Err.ensures in (e.0, (refl, e.1, refl))
-
-pub offset_bounds-steps-at : goal.offset_bounds-steps-at
-offset_bounds-steps-at g c =
-    let h : c.loop-at.at < length c.args.steps.now = omega arith in
-    scaled_Fits _ (length c.args.steps.now) _ h (search rules)
-
-pub offset_bounds-steps-at-in-loop-at : goal.offset_bounds-steps-at-in-loop-at
-offset_bounds-steps-at-in-loop-at g c =
-    let h : c.loop-at.at < length c.args.steps.now = omega arith in
-    scaled_Fits _ (length c.args.steps.now) _ h (search rules)
+    let meaning = g.P.Piece.meaning in
+    let opening = c.in_ok-ticket.ensures in
+    let h : length c.loop-step.steps ≤ c.loop-step.step-index = omega arith in (
+      opening.0,
+      playing_all g.G.Gate.kind g.C.Playable.rules g.C.Playable.gives (meaning c.args.piece.now) c.open.new.book c.args.steps.now
+          g.met.G.Gate.lawful c.in_ok-ticket.ticket c.args.book.now opening.1 c.loop-step.step-index c.loop-step.steps (meaning c.loop-step.piece)
+          c.loop-step.book c.loop-step.invariant h,
+    )

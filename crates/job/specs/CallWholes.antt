@@ -14,7 +14,7 @@ use Rattle.job.specs.declared.call.Edit.TheVariants.{Put, TakeBack}
 use Rattle.job.specs.declared.call.Call.{Call}
 use Rattle.job.specs.declared.call.Call.TheVariants.{ByHand, Run}
 use Rattle.job.specs.Paper.{taken, done, call_done}
-use Rattle.job.proofs.WholeLaws.{taken_whole}
+use Rattle.job.specs.WholeLaws.{taken_whole}
 
 module _ {G : Type 0} (K : Kind G) (law : Lawful K) (n : ℕ) where
   -- the gate in the map and the one in the list undo each other
