@@ -4,10 +4,9 @@ use Rattle.sheet.specs.declared.fault.Fault.{Fault}
 use Rattle.sheet.specs.declared.fault.Layer.{Layer}
 use Rattle.sheet.specs.declared.fault.Layer.TheVariants.{Body}
 use Rattle.gates.specs.declared.refusal.Refusal.{Refusal}
-use Rattle.gates.specs.declared.refusal.Refusal.TheVariants.{WrongForm}
 use Rattle.sheet.specs.declared.contents.Kind.{Kind}
 use Rattle.sheet.specs.declared.entry.Entry.{Entry}
-use Rattle.sheet.specs.Fault.{fault, and_then, placed, line_by}
+use Rattle.sheet.specs.Fault.{and_then, placed, line_by}
 use Rattle.sheet.specs.Text.{pieces}
 use Rattle.sheet.specs.Body.{body_line, body_lines}
 use Rattle.sheet.proofs.Lines.{pieces_cons}
@@ -43,10 +42,6 @@ module _ {A : Type 0} (layer : Layer) (i : ℕ) (f : List ℕ → Result A Refus
 
   pub line_err : (l rest : List ℕ) (x : Fault) → pieces 10 s ≡ l ∷ pieces 10 rest → placed layer i (f l) ≡ Err x → line_by layer i f (pieces 10 s) ≡ Err x
   line_err l rest x e r = line_reads l rest e ∙ ap (λ z. and_then z (λ b. Ok (b, pieces 10 rest))) r
-
-  -- a line with no end
-  pub line_ends : pieces 10 s ≡ s ∷ [] → line_by layer i f (pieces 10 s) ≡ Err (fault WrongForm i layer)
-  line_ends e = ap (line_by layer i f) e
 
 count_down : (i end : ℕ) → i < end → end - i ≡ suc (end - (i + 1))
 count_down i end l = omega arith

@@ -141,7 +141,7 @@ module _ (c : Contents) (first : ℕ) (t : List ℕ) (m : ℕ) (fine : told c.ki
 
 -- the body that is cut from a sheet holds what its item tells
 pub body_held : (s : List ℕ) (p : Item) (b : Body) → CutFrom s p b → held_by b ≡ item_holds s p
-body_held s p b h = (λ j. body_of (h.kind j) (h.lines j) (h.count j) (h.first j) (h.bytes j))
+body_held s p b h = (λ j. body_of (h.contents j).kind (h.contents j).lines (h.contents j).count (h.first j) (h.bytes j))
 
 pub cut_held : (s : List ℕ) (c : Contents) (first start m : ℕ) (b : Body) → CutFrom s (record { contents = c; first = first; start = start; end = start + m }) b → held_by b ≡ body_of c.kind c.lines c.count first (take m (drop start s))
 cut_held s c first start m b h =
@@ -152,9 +152,6 @@ cut_held s c first start m b h =
 module _ (text rest : List ℕ) (ls : List (List ℕ)) (i : ℕ) (passed : length ls ≡ i) (split : pieces 10 text ≡ ls ++ pieces 10 rest) where
   pub pass_more : (l after : List ℕ) → pieces 10 rest ≡ l ∷ pieces 10 after → (length (ls ++ l ∷ []) ≡ i + 1) × (pieces 10 text ≡ (ls ++ l ∷ []) ++ pieces 10 after)
   pass_more l after e = (omega (arith, length-append ls (l ∷ []), passed), split ∙ ap (λ z. ls ++ z) e ∙ sym (append_assoc ls (l ∷ []) (pieces 10 after)))
-
-  pub pass_short : (count : ℕ) → i < count → pieces 10 rest ≡ rest ∷ [] → length (pieces 10 text) ≤ count
-  pass_short count l e = omega (arith, ap length (split ∙ ap (λ z. ls ++ z) e), length-append ls (rest ∷ []), passed)
 
   pub pass_within : length rest ≤ length text
   pass_within = omega (arith, ap length (text_split text rest ls split), length-append (lines_text ls) rest)

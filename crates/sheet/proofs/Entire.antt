@@ -1,7 +1,7 @@
 -- What the parts of a sheet make together.
-use Rattle.std.proofs.Common.{◌≡◌, ℕ, ◌+◌, ◌-◌, ◌≤◌, true, false, List, ◌∷◌, ◌++◌, length, drop, Ok, Err, decimal, Result, sym, refl, ap, ◌∙◌, arith, length-append}
+use Rattle.std.proofs.Common.{◌≡◌, ℕ, ◌+◌, ◌-◌, ◌≤◌, true, List, ◌∷◌, ◌++◌, length, drop, Ok, Err, decimal, Result, sym, refl, ap, ◌∙◌, arith, length-append}
 use lib.ListN.{length-map}
-use Rattle.std.proofs.lemmas.Bool.{cond-true, cond-false}
+use Rattle.std.proofs.lemmas.Bool.{cond-true}
 use Rattle.std.proofs.lemmas.List.{drop_at}
 use Rattle.sheet.specs.declared.fault.Fault.{Fault}
 use Rattle.sheet.specs.declared.fault.Layer.TheVariants as layer
@@ -23,10 +23,6 @@ then_same : {A B E : Type 0} (r : Result A E) (f g : A → Result B E) → ((a :
 then_same (Ok a) f g h = h a refl
 then_same (Err e) f g h = refl
 
--- a sheet that is empty or too long
-pub length_stop : (s : List ℕ) → right_length s ≡ false → Err (fault WrongForm 1 layer.Contents) ≡ sheet_parts s
-length_stop s e = sym (ap (λ r. and_then r (λ hs. Ok (parts hs))) (cond-false _ (sheet_lines (pieces 10 s)) (Err (fault WrongForm 1 layer.Contents)) e))
-
 after_head : Result (ℕ × List (List ℕ)) Fault → Result (List Item) Fault
 after_head z = and_then (and_then z (λ k. and_then (contents_lines k.0 2 (k.0 + 2) k.1) (λ cs. bodies cs.0 (k.0 + 2) cs.1))) (λ hs. Ok (parts hs))
 
@@ -38,18 +34,10 @@ module _ (s : List ℕ) (right : right_length s ≡ true) where
   unfolding after_head
   opened = ap (λ r. and_then r (λ hs. Ok (parts hs))) (cond-true _ (sheet_lines (pieces 10 s)) (Err (fault WrongForm 1 layer.Contents)) right)
 
-  pub head_stop : (f : Fault) → line_by layer.Contents 1 head (pieces 10 s) ≡ Err f → Err f ≡ sheet_parts s
-  unfolding after_head
-  head_stop f e = sym (opened ∙ ap after_head e)
-
   module _ (k : ℕ) (rest : List ℕ) (e : line_by layer.Contents 1 head (pieces 10 s) ≡ Ok (k, pieces 10 rest)) where
     listed : sheet_parts s ≡ after_contents k (contents_lines k 2 (k + 2) (pieces 10 rest))
     unfolding after_head after_contents
     listed = opened ∙ ap after_head e
-
-    pub contents_stop : (f : Fault) → contents_lines k 2 (k + 2) (pieces 10 rest) ≡ Err f → Err f ≡ sheet_parts s
-    unfolding after_contents
-    contents_stop f p = sym (listed ∙ ap (after_contents k) p)
 
     module _ (cs : List Contents) (tail : List ℕ) (p : contents_lines k 2 (k + 2) (pieces 10 rest) ≡ Ok (cs, pieces 10 tail)) where
       heading : List ℕ

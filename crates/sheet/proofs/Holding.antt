@@ -1,5 +1,5 @@
 -- What a body holds, from how its lines are read.
-use Rattle.std.proofs.Common.{◌≡◌, ℕ, suc, ◌+◌, ◌≤◌, true, false, cond, List, [], ◌∷◌, ◌++◌, length, take, set, Ok, Err, Result, sym, refl, ap, ◌∙◌, subst, arith}
+use Rattle.std.proofs.Common.{◌≡◌, ℕ, suc, ◌+◌, ◌≤◌, true, cond, List, [], ◌∷◌, ◌++◌, length, take, set, Ok, Err, Result, sym, refl, ap, ◌∙◌, subst, arith}
 use Rattle.std.proofs.lemmas.Bool.{cond-true, cond-false, eq-eqb, ne_eqb}
 use Rattle.gates.specs.declared.refusal.Refusal.TheVariants.{WrongForm, WrongContents}
 use Rattle.sheet.specs.declared.fault.Fault.{Fault}
@@ -12,9 +12,6 @@ use Rattle.sheet.specs.Body.{body_lines, ended, alone, told, body_of, how_many, 
 use Rattle.sheet.proofs.Sheets.{ended_pieces}
 
 module _ (k : Kind) (n count first : ℕ) (part : List ℕ) where
-  pub held_untold : told k n count first ≡ false → body_of k n count first part ≡ Err (fault WrongContents first layer.Body)
-  held_untold t = cond-false _ (alone (first + count) (body_lines k n first 0 count (pieces 10 part))) (Err (fault WrongContents first layer.Body)) t
-
   module _ (t : told k n count first ≡ true) where
     pub held_lines : body_of k n count first part ≡ alone (first + count) (body_lines k n first 0 count (pieces 10 part))
     held_lines = cond-true _ (alone (first + count) (body_lines k n first 0 count (pieces 10 part))) (Err (fault WrongContents first layer.Body)) t

@@ -1,13 +1,11 @@
 -- Laws of the forms of lines.
-use Rattle.std.proofs.Common.{◌≡◌, ℕ, zero, suc, ◌+◌, ◌-◌, ◌*◌, ◌^◌, ◌<◌, ◌≤◌, true, false, cond, eqb, ltb, List, [], ◌∷◌, length, get_or, take, drop, Some, None, Err, Option, sym, refl, ap, ◌∙◌, one-mul, pow-suc, add-one, arith, rules}
+use Rattle.std.proofs.Common.{◌≡◌, ℕ, suc, ◌+◌, ◌*◌, ◌^◌, ◌<◌, ◌≤◌, true, false, cond, eqb, ltb, List, [], ◌∷◌, ◌++◌, Some, None, Err, Option, sym, refl, ap, ◌∙◌, one-mul, pow-suc, add-one, arith, rules}
 use lib.Bits.{bit_or, or_shifted_r}
 use native.Mathlib.Nat.{pow-le-pow_right}
-use Rattle.std.proofs.lemmas.List.{drop_more, take_rest}
-use Rattle.std.proofs.lemmas.Bool.{cond-true, cond-false, eq-eqb, and_from, le-leb, lt-leb, lt-ltb, le-ltb, ltb-true, ltb-false}
+use Rattle.std.proofs.lemmas.Bool.{cond-true, cond-false, le-leb, lt-leb, lt-ltb, le-ltb, ltb-true, ltb-false}
 use Rattle.sheet.specs.Text.{onto, pieces, numeral}
-use Rattle.sheet.specs.Form.{both, numerals, numbers, bit, below_word, bits, triple, after_letter, fields, mct_of, byte, with_line}
+use Rattle.sheet.specs.Form.{both, numerals, numbers, bit, below_word, bits, mct_of, byte, with_line}
 use Rattle.gates.specs.declared.refusal.Refusal.TheVariants.{WrongForm}
-use Rattle.std.specs.Char.{is_ascii_uppercase}
 
 both_not_nil : (o : Option ℕ) (ns : Option (List ℕ)) → both o ns ≡ Some [] → ⊥
 both_not_nil None ns e = let z : ◌≡◌ {A = ℕ} 0 1 = cc in omega arith
@@ -34,40 +32,21 @@ numbers_not_nil s e =
 bit_small : (d b : ℕ) → bit d ≡ Some b → b ≤ 1
 bit_small d b e = search rules
 
--- a row is read from its last digit to its first
-module _ (l : List ℕ) (i : ℕ) (some : 0 < i) (inside : i ≤ length l) where
-  step : drop (i - 1) l ≡ get_or l (i - 1) 0 ∷ drop i l
-  step = let e : i - 1 + 1 ≡ i = omega arith in drop_more l (i - 1) 0 (omega arith) ∙ ap (λ k. get_or l (i - 1) 0 ∷ drop k l) e
-
-  pub bits_more : (b w : ℕ) → bit (get_or l (i - 1) 0) ≡ Some b → bits (drop i l) ≡ Some w → bits (drop (i - 1) l) ≡ Some (b + w * 2)
-  bits_more b w e h = ap bits step ∙ ap (λ o. below_word o (bits (drop i l))) e ∙ ap (below_word (Some b)) h
-
-  pub bits_other : bit (get_or l (i - 1) 0) ≡ None → bits (drop (i - 1) l) ≡ None
-  bits_other e = ap bits step ∙ ap (λ o. below_word o (bits (drop i l))) e
-
-  -- one bit more is one power more
-  pub bit_fits : (b w : ℕ) → bit (get_or l (i - 1) 0) ≡ Some b → w < 2 ^ (length l - i) → b + w * 2 < 2 ^ (length l - (i - 1))
-  bit_fits b w d k =
-      let h = bit_small (get_or l (i - 1) 0) b d in
-      let e : length l - (i - 1) ≡ suc (length l - i) = omega arith in
-      rw (e, pow-suc) (omega arith)
+-- one bit more is one power more
+pub bit_fits : (d b w k : ℕ) → bit d ≡ Some b → w < 2 ^ k → k < 64 → b + w * 2 < 2 ^ 64
+bit_fits d b w k e h l =
+    let small = bit_small d b e in
+    let p : 2 ^ suc k ≤ 2 ^ 64 = pow-le-pow_right (omega arith) l in
+    omega (arith, small, pow-suc 2 k, p)
 
 below_none : (o : Option ℕ) → below_word o None ≡ None
 below_none None = refl
 below_none (Some b) = refl
 
 -- what is no row from some digit on is no row
-pub bits_none : (l : List ℕ) (i : ℕ) → bits (drop i l) ≡ None → bits l ≡ None
-bits_none l zero h = h
-bits_none [] (suc i) h = h
-bits_none (b ∷ bs) (suc i) h = ap (below_word (bit b)) (bits_none bs i h) ∙ below_none (bit b)
-
--- a line with a capital and a space in front
-pub fields_at : (l : List ℕ) → 2 ≤ length l → is_ascii_uppercase (get_or l 0 0) ≡ true → get_or l 1 0 ≡ 32 → fields l ≡ after_letter (get_or l 0 0) (triple (numbers (take (length l - 2) (drop 2 l))))
-fields_at [] h u e = absurd (omega arith)
-fields_at (b ∷ []) h u e = absurd (omega arith)
-fields_at (b ∷ s ∷ rest) h u e =
-    cond-true _ _ _ (and_from _ _ u (eq-eqb s 32 e)) ∙ ap (λ r. after_letter b (triple (numbers r))) (sym (take_rest (b ∷ s ∷ rest) 2))
+pub bits_none : (front : List ℕ) (b : ℕ) (done : List ℕ) → bit b ≡ None → bits (front ++ b ∷ done) ≡ None
+bits_none [] b done e = ap (λ o. below_word o (bits done)) e
+bits_none (d ∷ front) b done e = ap (below_word (bit d)) (bits_none front b done e) ∙ below_none (bit d)
 
 -- one control more
 mct_step_of : (n set least c : ℕ) (o : Option (List ℕ)) → (o ≡ Some [] → ⊥) → least ≤ c → mct_of n set least (both (Some c) o) ≡ mct_of n (set + 2 ^ c) (c + 1) o

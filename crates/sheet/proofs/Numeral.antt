@@ -1,35 +1,11 @@
 -- Laws of `numeral`.
-use Rattle.std.proofs.Common.{◌≡◌, ℕ, ◌+◌, ◌-◌, ◌*◌, ◌^◌, ◌<◌, ◌≤◌, Bool, true, false, cond, not, ◌&&◌, ◌||◌, List, [], ◌∷◌, length, get_or, drop, Some, None, decimal, sym, refl, ap, ◌∙◌, ⊎_elim, pow-suc, add-one, arith, rules}
-use native.Mathlib.Nat.{pow-le-pow_right}
+use Rattle.std.proofs.Common.{◌≡◌, ℕ, ◌+◌, ◌-◌, ◌*◌, ◌^◌, ◌<◌, Bool, true, false, cond, not, ◌&&◌, ◌||◌, List, [], ◌∷◌, length, get_or, Some, None, decimal, sym, refl, ap, ◌∙◌, ⊎_elim, arith, rules}
 use Rattle.std.specs.Str.{all_ascii_digits}
 use Rattle.std.proofs.lemmas.Str.Parse.{IsNumeralModel, numerals_by_fold, digits_value_short}
 use Rattle.std.proofs.lemmas.Fmt.{decimal-digits_value, digits_decimal, digits_value-decimal, length-decimal-le, decimal_nonempty, first_decimal, decimal_digit}
-use Rattle.std.proofs.lemmas.Bool.{cond-true, cond-false, and_parts, leb-true, ltb-true, eqb-true, eq-eqb, false≢true, and_from, lt-ltb, le-leb, cases_lt}
-use Rattle.std.proofs.lemmas.List.{at_drop_more, at_drop_all}
+use Rattle.std.proofs.lemmas.Bool.{cond-true, and_parts, leb-true, ltb-true, eqb-true, eq-eqb, false≢true, and_from, lt-ltb, le-leb, cases_lt}
 use Rattle.std.specs.Char.{is_ascii_digit}
 use Rattle.sheet.specs.Text.{digits_after, sized, numeral}
-
-module _ (n : ℕ) (ds : List ℕ) (i : ℕ) (inside : i < length ds) where
-  -- one digit more
-  pub digits_more : is_ascii_digit (get_or ds i 0) ≡ true → digits_after (n * 10 + (get_or ds i 0 - 48)) (drop (i + 1) ds) ≡ digits_after n (drop i ds)
-  digits_more d = sym (at_drop_more (digits_after n) ds i 0 inside ∙ cond-true _ _ _ d)
-
-  -- a byte that is no digit
-  pub digits_stop : is_ascii_digit (get_or ds i 0) ≡ false → digits_after n (drop i ds) ≡ None
-  digits_stop d = at_drop_more (digits_after n) ds i 0 inside ∙ cond-false _ _ _ d
-
-pub digits_all : (n : ℕ) (ds : List ℕ) (i : ℕ) → length ds ≤ i → digits_after n (drop i ds) ≡ Some n
-digits_all n ds i h = at_drop_all (digits_after n) ds i h
-
--- i digits write a number below 10 ^ i
-pub below_more : (n d i : ℕ) → n < 10 ^ i → d ≤ 9 → n * 10 + d < 10 ^ (i + 1)
-below_more n d i h l = rw (add-one, pow-suc) (omega arith)
-
-pub below_five : (n i : ℕ) → n < 10 ^ i → i ≤ 5 → n < 100000
-below_five n i h l = let p : 10 ^ i ≤ 10 ^ 5 = pow-le-pow_right (omega arith) l in omega arith
-
-pub sized_short : (ds : List ℕ) → sized ds ≡ true → length ds ≤ 5
-sized_short ds h = leb-true (length ds) 5 (and_parts _ _ (and_parts _ _ h).0).1
 
 -- digits with no test
 pub read_on : ℕ → List ℕ → ℕ

@@ -66,7 +66,7 @@ body_of k n count first part =
     cond (told k n count first) (alone (first + count) (body_lines k n first 0 count (pieces 10 part))) (Err (fault WrongContents first layer.Body))
 
 abbrev pub held_by : Body → Result (List Entry) Fault
-held_by b = body_of b.kind b.lines b.count b.first b.part.now
+held_by b = body_of b.contents.kind b.contents.lines b.contents.count b.first b.part.now
 
 abbrev pub how_many : Result (List Entry) Fault → Result ℕ Fault
 how_many r = and_then r (λ es. Ok (length es))

@@ -1,11 +1,11 @@
 -- Faults and their places, and readings that end at the first fault.
-use Rattle.std.specs.Prelude.{◌≡◌, ℕ, List, [], ◌∷◌, Ok, Err, codes, Result}
-use Rattle.std.specs.Borrow.{Bor}
+use Rattle.std.specs.Prelude.{◌≡◌, ℕ, ◌+◌, List, [], ◌∷◌, Ok, Err, codes, Result}
 use Rattle.gates.specs.declared.refusal.Refusal.{Refusal}
 use Rattle.gates.specs.declared.refusal.Refusal.TheVariants.{WrongForm}
 use Rattle.sheet.specs.declared.fault.Fault.{Fault}
 use Rattle.sheet.specs.declared.fault.Layer.{Layer}
 use Rattle.sheet.specs.declared.fault.Layer.TheVariants as layer
+use Rattle.sheet.specs.declared.rest.Rest.{Rest}
 use Rattle.sheet.specs.Text.{pieces}
 
 abbrev pub fault : Refusal → ℕ → Layer → Fault
@@ -26,10 +26,10 @@ abbrev pub placed : {A : Type 0} → Layer → ℕ → Result A Refusal → Resu
 placed layer i (Ok a) = Ok a
 placed layer i (Err why) = Err (fault why i layer)
 
--- What a reader of the text that begins a slice tells, with the rest of the slice in place of its pieces.
-abbrev pub Reads : {A : Type 0} → Result (A × Bor (List ℕ)) Fault → Result (A × List (List ℕ)) Fault → Type 0
-Reads (Ok x) told = told ≡ Ok (x.0, pieces 10 x.1.now)
-Reads (Err e) told = told ≡ Err e
+-- What a reader of line i tells, with what is left after the line in place of its pieces.
+abbrev pub Reads : {A : Type 0} → ℕ → Result (A × Rest) Fault → Result (A × List (List ℕ)) Fault → Type 0
+Reads i (Ok x) told = (told ≡ Ok (x.0, pieces 10 x.1.lines.now)) × (x.1.number ≡ i + 1)
+Reads i (Err e) told = told ≡ Err e
 
 -- Line i, which is the first of the pieces, as f reads it, and the pieces after it. The last piece is no ended line.
 abbrev pub line_by : {A : Type 0} → Layer → ℕ → (List ℕ → Result A Refusal) → List (List ℕ) → Result (A × List (List ℕ)) Fault

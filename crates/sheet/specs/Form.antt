@@ -33,7 +33,11 @@ abbrev pub rest_numbers : Option (Bor (List ℕ)) → Option (List ℕ)
 rest_numbers None = Some []
 rest_numbers (Some rest) = numbers rest.now
 
--- Just two numbers, and just three.
+-- Just n numbers; just two, and just three.
+abbrev pub just : ℕ → Option (List ℕ) → Option (List ℕ)
+just n None = None
+just n (Some ns) = cond (length ns == n) (Some ns) None
+
 abbrev pub pair : Option (List ℕ) → Option (ℕ × ℕ)
 pair None = None
 pair (Some []) = None

@@ -26,7 +26,7 @@ abbrev pub sheet_parts : List ℕ → Result (List Item) Fault
 sheet_parts s = and_then (sheet_of s) (λ hs. Ok (parts hs))
 
 abbrev pub sheet_items : Sheet → List Item
-sheet_items t = take t.count t.items
+sheet_items t = t.items.items
 
 abbrev pub items_of : Result Sheet Fault → Result (List Item) Fault
 items_of r = and_then r (λ t. Ok (sheet_items t))
@@ -42,9 +42,7 @@ part s p = take (p.end - p.start) (drop p.start s)
 -- A body as its item tells of it, and as it stands in the sheet.
 pub record CutFrom (s : List ℕ) (p : Item) (b : Body) : Type 0 where
   pub lies : lies_in s p ≡ true
-  pub kind : b.kind ≡ p.contents.kind
-  pub lines : b.lines ≡ p.contents.lines
-  pub count : b.count ≡ p.contents.count
+  pub contents : b.contents ≡ p.contents
   pub first : b.first ≡ p.first
   pub bytes : b.part.now ≡ part s p
 

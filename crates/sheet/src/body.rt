@@ -7,18 +7,16 @@ ghost use Rattle.sheet.specs.Fault.{fault, placed, Reads, line_by};
 ghost use Rattle.sheet.specs.Form.{most};
 ghost use Rattle.sheet.specs.Body.{kind_of_line, number_of_line, text_of_line, body_line, told, held_by, how_many, laid_by, Fills, Filled};
 
-use crate::contents::Kind;
+use crate::contents::{Contents, Kind};
 use crate::entry::{Entry, read_cnot, read_image, read_mct, read_row};
-use crate::fault::{Fault, Layer, at_line};
-use crate::text::split_once;
+use crate::fault::{Fault, Layer};
+use crate::rest::Rest;
 use gates::refusal::Refusal;
 
-// The kind of a body, its line count n, how many lines it has, the number of the first, and its part of the sheet.
+// What the contents tell of a body, the number of its first line, and its part of the sheet.
 #[derive(Clone, Copy)]
 pub struct Body<'a> {
-    pub kind: Kind,
-    pub lines: u8,
-    pub count: usize,
+    pub contents: Contents,
     pub first: u64,
     pub part: &'a [u8],
 }
@@ -30,20 +28,6 @@ pub enum BodyLine<'a> {
     Image(u64, &'a [u8]),
     CnotGate(u64, &'a [u8]),
     MctGate(u64, &'a [u8]),
-}
-
-// The next line of a text and what follows it; the line is unfinished where it has no end.
-pub(crate) fn next_line(rest: &[u8], number: u64, layer: Layer) -> Result<(&[u8], &[u8]), Fault>
-    ensures { MatchResult result (λ p. pieces 10 rest.now ≡ p.0.now ∷ pieces 10 p.1.now) (λ e. (e ≡ fault WrongForm number layer) × (pieces 10 rest.now ≡ rest.now ∷ [])) }
-{
-    match split_once(rest, b'\n') {
-        Some(parts) => Ok(parts),
-        None => Err(Fault {
-            why: Refusal::WrongForm,
-            line: number,
-            layer,
-        }),
-    }
 }
 
 // The line of a body of that kind.
@@ -65,50 +49,27 @@ fn read_entry(line: BodyLine<'_>, n: u8, at: usize) -> Result<Entry, Fault>
     requires { n ≤ most (kind_of_line line) }
     ensures { result ≡ placed layer.Body (number_of_line line.entry) (body_line (kind_of_line line.entry) n at (text_of_line line.entry)) }
 {
-    match line {
-        BodyLine::Row(number, text) => Ok(Entry::Word(at_line(
-            read_row(text, n),
-            number,
-            Layer::Body,
-        )?)),
-        BodyLine::Image(number, text) => Ok(Entry::Image(at_line(
-            read_image(text, n, at),
-            number,
-            Layer::Body,
-        )?)),
-        BodyLine::MctGate(number, text) => Ok(Entry::Mct(at_line(
-            read_mct(text, n),
-            number,
-            Layer::Body,
-        )?)),
-        BodyLine::CnotGate(number, text) => Ok(Entry::Cnot(at_line(
-            read_cnot(text, n),
-            number,
-            Layer::Body,
-        )?)),
-    }
+    let (number, entry) = match line {
+        BodyLine::Row(number, text) => (number, read_row(text, n).map(Entry::Word)),
+        BodyLine::Image(number, text) => (number, read_image(text, n, at).map(Entry::Image)),
+        BodyLine::CnotGate(number, text) => (number, read_cnot(text, n).map(Entry::Cnot)),
+        BodyLine::MctGate(number, text) => (number, read_mct(text, n).map(Entry::Mct)),
+    };
+    entry.map_err(|why| Fault::at(why, number, Layer::Body))
 }
 
-// The number of the line after the first `at` of a body.
-fn line_number(first: u64, at: usize) -> u64
-    requires { first + at < 2 ^ 64 }
-    ensures { result ≡ first + at }
+// What the next line of a body holds, the one after its first `at` lines, and what is left after it.
+fn next_entry(contents: Contents, at: usize, rest: Rest<'_>) -> Result<(Entry, Rest<'_>), Fault>
+    requires { (contents.lines ≤ most contents.kind) × (rest.number + 1 < 2 ^ 64) }
+    ensures { Reads rest.entry.number result (line_by layer.Body rest.entry.number (body_line contents.kind contents.lines at) (pieces 10 rest.entry.lines.now)) }
 {
-    first + at as u64
-}
-
-// What the next line of a body holds, after its first `at` lines, and what follows it.
-fn next_entry<'a>(body: Body<'a>, at: usize, rest: &'a [u8]) -> Result<(Entry, &'a [u8]), Fault>
-    requires { (body.lines ≤ most body.kind) × (body.first + at < 2 ^ 64) }
-    ensures { Reads result (line_by layer.Body (body.entry.first + at) (body_line body.entry.kind body.entry.lines at) (pieces 10 rest.now)) }
-{
-    let number = line_number(body.first, at);
-    let (text, after) = next_line(rest, number, Layer::Body)?;
-    let entry = read_entry(body_line(body.kind, number, text), body.lines, at)?;
+    let (text, after) = rest.next_line(Layer::Body)?;
+    let line = body_line(contents.kind, rest.number, text);
+    let entry = read_entry(line, contents.lines, at)?;
     Ok((entry, after))
 }
 
-// Lays an entry into its place, if there is one.
+// Lays an entry into its place, if there is one. By index: what `get_mut` lends out tells nothing of the place afterwards.
 fn lay(entries: &mut [Entry], at: usize, entry: Entry)
     ensures { entries.new ≡ slice_set entries.old at entry }
 {
@@ -119,28 +80,34 @@ fn lay(entries: &mut [Entry], at: usize, entry: Entry)
 
 // Whether a contents line can tell of such a body, and its lines have numbers.
 fn is_told(body: Body<'_>) -> bool
-    ensures { result ≡ told body.entry.kind body.entry.lines body.entry.count body.entry.first }
+    ensures { result ≡ told body.entry.contents.kind body.entry.contents.lines body.entry.contents.count body.entry.first }
 {
-    body.kind.fits(u32::from(body.lines), body.count) && body.count as u64 <= u64::MAX - body.first
+    let Contents { kind, lines, count } = body.contents;
+    kind.fits(u32::from(lines), count) && body.first.checked_add(count as u64).is_some()
 }
 
-// Reads the lines of a body, and lays what they hold into the places from the start.
+// Reads the lines of a body, and lays what they hold into the places from the start. What it answers is the promise of the checker and
+// of the reader too, so that each says it.
 fn read_lines(body: Body<'_>, entries: &mut [Entry]) -> Result<usize, Fault>
     ensures answer { result ≡ how_many (held_by body.entry) }
     ensures entries { Fills result (held_by body.entry) entries.old entries.new }
 {
     if !is_told(body) {
-        return Err(Fault::in_body(Refusal::WrongContents, body.first));
+        return Err(Fault::at(Refusal::WrongContents, body.first, Layer::Body));
     }
-    let count = body.count;
-    let mut rest = body.part;
+    let count = body.contents.count;
+    let mut rest = Rest {
+        lines: body.part,
+        number: body.first,
+    };
+    // `at` is the row of the line and its place; there may be fewer places than lines.
     for at in 0..count {
-        let (entry, after) = next_entry(body, at, rest)?;
+        let (entry, after) = next_entry(body.contents, at, rest)?;
         lay(entries, at, entry);
         rest = after;
     }
-    if !rest.is_empty() {
-        return Err(Fault::in_body(Refusal::WrongForm, line_number(body.first, count)));
+    if !rest.lines.is_empty() {
+        return Err(Fault::at(Refusal::WrongForm, rest.number, Layer::Body));
     }
     Ok(count)
 }
@@ -149,8 +116,7 @@ fn read_lines(body: Body<'_>, entries: &mut [Entry]) -> Result<usize, Fault>
 pub(crate) fn check_body(body: Body<'_>) -> Result<usize, Fault>
     ensures { result ≡ how_many (held_by body.entry) }
 {
-    let mut places: [Entry; 0] = [];
-    read_lines(body, &mut places)
+    read_lines(body, &mut [])
 }
 
 // Reads a body, lays its entries into the places from the start, and answers how many there are. Those past the last place are left out, and a fault changes no place.

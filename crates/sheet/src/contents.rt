@@ -1,14 +1,16 @@
 // Line 1 and the contents lines.
-ghost use Rattle.std.specs.Prelude.{◌≡◌};
+ghost use Rattle.std.specs.Prelude.{◌≡◌, ok_or};
+ghost use Rattle.gates.specs.declared.refusal.Refusal.TheVariants.{WrongContents};
 ghost use Rattle.sheet.specs.Form.{head, kind_of, most, fits, fields, contents};
 
-use crate::numbers::read_triple;
+use crate::numbers::read_numbers;
 use crate::text::read_numeral;
 use gates::refusal::Refusal;
 
-// What a body is made of: rows, images, CNOT gates or MCT gates.
-#[derive(Clone, Copy)]
+// What a body is made of: rows, images, CNOT gates or MCT gates. The default fills the places of a vector that hold no item.
+#[derive(Clone, Copy, Default)]
 pub enum Kind {
+    #[default]
     Matrix,
     Table,
     Cnots,
@@ -16,27 +18,31 @@ pub enum Kind {
 }
 
 // What a contents line tells: the kind of an item, its line count n, and how many lines its body has.
-#[derive(Clone, Copy)]
+#[derive(Clone, Copy, Default)]
 pub struct Contents {
     pub kind: Kind,
     pub lines: u8,
     pub count: usize,
 }
 
-impl Kind {
-    // The kind that a capital names.
-    fn of_letter(b: u8) -> Option<Kind>
-        ensures { result ≡ kind_of b }
-    {
-        match b {
-            b'M' => Some(Kind::Matrix),
-            b'T' => Some(Kind::Table),
-            b'C' => Some(Kind::Cnots),
-            b'G' => Some(Kind::Mcts),
-            _ => None,
+// The kind that a capital names.
+impl TryFrom<u8> for Kind {
+    type Error = Refusal;
+
+    ghost try_from_gives = { λ capital r. r ≡ ok_or (kind_of capital) WrongContents };
+
+    fn try_from(capital: u8) -> Result<Kind, Refusal> {
+        match capital {
+            b'M' => Ok(Kind::Matrix),
+            b'T' => Ok(Kind::Table),
+            b'C' => Ok(Kind::Cnots),
+            b'G' => Ok(Kind::Mcts),
+            _ => Err(Refusal::WrongContents),
         }
     }
+}
 
+impl Kind {
     // The largest line count n.
     fn most(self) -> u32
         ensures { result ≡ most self }
@@ -76,31 +82,28 @@ pub(crate) fn read_head(line: &[u8]) -> Result<usize, Refusal>
 fn read_fields(line: &[u8]) -> Option<(u8, u32, u32, u32)>
     ensures { result ≡ fields line.now }
 {
-    let [letter, space, numbers @ ..] = line else {
+    let [capital, space, numbers @ ..] = line else {
         return None;
     };
-    if !letter.is_ascii_uppercase() || *space != b' ' {
+    if !capital.is_ascii_uppercase() || *space != b' ' {
         return None;
     }
-    let (n, count, at) = read_triple(numbers)?;
-    Some((*letter, n, count, at))
+    let [n, count, at] = read_numbers::<3>(numbers)?;
+    Some((*capital, n, count, at))
 }
 
 // What a contents line tells of an item whose body is to begin at the line `first`.
 pub(crate) fn read_contents(line: &[u8], first: u64) -> Result<Contents, Refusal>
     ensures { result ≡ contents first line.now }
 {
-    let Some((letter, n, count, at)) = read_fields(line) else {
-        return Err(Refusal::WrongForm);
-    };
-    match Kind::of_letter(letter) {
-        Some(kind) if kind.fits(n, count as usize) && u64::from(at) == first => {
-            Ok(Contents {
-                kind,
-                lines: n as u8,
-                count: count as usize,
-            })
-        }
-        _ => Err(Refusal::WrongContents),
+    let (capital, n, count, at) = read_fields(line).ok_or(Refusal::WrongForm)?;
+    let kind = Kind::try_from(capital)?;
+    if !kind.fits(n, count as usize) || u64::from(at) != first {
+        return Err(Refusal::WrongContents);
     }
+    Ok(Contents {
+        kind,
+        lines: n as u8,
+        count: count as usize,
+    })
 }

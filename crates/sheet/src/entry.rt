@@ -1,9 +1,10 @@
-// What a line of a body holds: a row, an image or a gate.
-ghost use Rattle.std.specs.Prelude.{◌≡◌, ℕ, ◌+◌, ◌^◌, ◌<◌, ◌≤◌, nat_le};
+// What a line of a body holds: a row, an image or a gate. Each reader takes the line and n: a struct of the two would only rename them.
+ghost use Rattle.std.specs.Prelude.{◌≡◌, ℕ, ◌+◌, ◌^◌, ◌<◌, ◌≤◌, nat_le, ok_or};
+ghost use Rattle.gates.specs.declared.refusal.Refusal.TheVariants.{IllegalGate};
 ghost use Rattle.gates.specs.Mcts.{mct as the_mcts};
 ghost use Rattle.sheet.specs.Form.{bit, byte, with_line, legal, row, image, cnot, mct};
 
-use crate::numbers::{first_number, read_pair};
+use crate::numbers::{first_number, read_numbers};
 use crate::text::read_numeral;
 use gates::cnot::Cnot;
 use gates::gate::Gate;
@@ -36,15 +37,12 @@ pub(crate) fn read_row(line: &[u8], n: u8) -> Result<u64, Refusal>
     requires { n ≤ 64 }
     ensures { result ≡ row n line.now }
 {
-    if line.len() != n as usize {
+    if line.len() != usize::from(n) {
         return Err(Refusal::WrongForm);
     }
     let mut word = 0;
-    for i in (0..line.len()).rev() {
-        let Some(bit) = read_bit(line[i]) else {
-            return Err(Refusal::WrongForm);
-        };
-        word = bit + word * 2;
+    for b in line.iter().rev() {
+        word = read_bit(*b).ok_or(Refusal::WrongForm)? + word * 2;
     }
     Ok(word)
 }
@@ -53,18 +51,19 @@ pub(crate) fn read_row(line: &[u8], n: u8) -> Result<u64, Refusal>
 pub(crate) fn read_image(line: &[u8], n: u8, row: usize) -> Result<u64, Refusal>
     ensures { result ≡ image n row line.now }
 {
-    match read_numeral(line) {
-        Some(x) if is_word(n, u64::from(x)) => Ok(u64::from(x)),
-        Some(_) => Err(Refusal::WideRow { row }),
-        None => Err(Refusal::WrongForm),
+    let x = u64::from(read_numeral(line).ok_or(Refusal::WrongForm)?);
+    if is_word(n, x) {
+        Ok(x)
+    } else {
+        Err(Refusal::WideRow { row })
     }
 }
 
-// A number as a byte, if it is one.
-fn to_byte(x: u32) -> Option<u8>
-    ensures { result ≡ byte x }
+// A number on the line of a gate, as a byte.
+fn to_byte(x: u32) -> Result<u8, Refusal>
+    ensures { result ≡ ok_or (byte x) IllegalGate }
 {
-    u8::try_from(x).ok()
+    u8::try_from(x).map_err(|_| Refusal::IllegalGate)
 }
 
 // A gate that is legal on n lines.
@@ -82,24 +81,20 @@ fn if_legal<G: Gate>(gate: G, n: u8) -> Result<G, Refusal>
 pub(crate) fn read_cnot(line: &[u8], n: u8) -> Result<Cnot, Refusal>
     ensures { result ≡ cnot n line.now }
 {
-    let (control, target) = read_pair(line).ok_or(Refusal::WrongForm)?;
-    match (to_byte(control), to_byte(target)) {
-        (Some(control), Some(target)) => if_legal(Cnot { control, target }, n),
-        _ => Err(Refusal::IllegalGate),
-    }
+    let [control, target] = read_numbers::<2>(line).ok_or(Refusal::WrongForm)?;
+    let (control, target) = (to_byte(control)?, to_byte(target)?);
+    if_legal(Cnot { control, target }, n)
 }
 
 // A set with one line more. There is no such set of a line of 8 or more.
 fn with_line(set: Option<u8>, line: u32) -> Option<u8>
     ensures { result ≡ with_line set line }
 {
-    match set {
-        Some(set) if line < 8 => Some(set | 1 << line),
-        _ => None,
-    }
+    Some(set? | 1u8.checked_shl(line)?)
 }
 
-// The controls that a gate line has so far: their set, and the least that may follow.
+// The controls that a gate line has so far: their set, and the least that may follow. There is no set where a control is 8 or more;
+// a fault of form may still come, and is told first.
 #[derive(Clone, Copy)]
 struct Controls {
     set: Option<u8>,
@@ -129,10 +124,9 @@ impl Controls {
     fn gate(self, target: u32, n: u8) -> Result<Mct, Refusal>
         ensures { (w : ℕ) → self.set ≡ byte w → result ≡ legal the_mcts n (record { controls = w; target = target }) }
     {
-        match (self.set, to_byte(target)) {
-            (Some(controls), Some(target)) => if_legal(Mct { controls, target }, n),
-            _ => Err(Refusal::IllegalGate),
-        }
+        let controls = self.set.ok_or(Refusal::IllegalGate)?;
+        let target = to_byte(target)?;
+        if_legal(Mct { controls, target }, n)
     }
 }
 
@@ -146,9 +140,7 @@ pub(crate) fn read_mct(line: &[u8], n: u8) -> Result<Mct, Refusal>
     };
     let mut rest = line;
     loop {
-        let Some((x, after)) = first_number(rest) else {
-            return Err(Refusal::WrongForm);
-        };
+        let (x, after) = first_number(rest).ok_or(Refusal::WrongForm)?;
         let Some(more) = after else {
             return controls.gate(x, n);
         };

@@ -1,7 +1,6 @@
 // Why a sheet is declined, and where.
 ghost use Rattle.std.specs.Prelude.{◌≡◌};
-ghost use Rattle.sheet.specs.Fault.{fault, placed, layer_name};
-ghost use Rattle.sheet.specs.declared.fault.Layer.TheVariants as layer;
+ghost use Rattle.sheet.specs.Fault.{fault, layer_name};
 
 use gates::refusal::Refusal;
 
@@ -22,41 +21,16 @@ pub struct Fault {
 }
 
 impl Fault {
-    // A fault of line 1 or of a contents line.
-    pub(crate) fn in_contents(why: Refusal, line: u64) -> Fault
-        ensures { result ≡ fault why line layer.Contents }
+    // A fault of a line that this layer works on.
+    pub(crate) fn at(why: Refusal, line: u64, layer: Layer) -> Fault
+        ensures { result ≡ fault why line layer }
     {
-        Fault {
-            why,
-            line,
-            layer: Layer::Contents,
-        }
-    }
-
-    // A fault of a later line.
-    pub(crate) fn in_body(why: Refusal, line: u64) -> Fault
-        ensures { result ≡ fault why line layer.Body }
-    {
-        Fault {
-            why,
-            line,
-            layer: Layer::Body,
-        }
-    }
-}
-
-// What the reader of one line answers, with the place of the line.
-pub(crate) fn at_line<T>(r: Result<T, Refusal>, line: u64, layer: Layer) -> Result<T, Fault>
-    ensures { result ≡ placed layer line r }
-{
-    match r {
-        Ok(x) => Ok(x),
-        Err(why) => Err(Fault { why, line, layer }),
+        Fault { why, line, layer }
     }
 }
 
 impl Layer {
-    // The word by which a fault tells its layer.
+    // The word by which a fault tells its layer. It is a text and no Display, whose contract cannot say what is written into a buffer.
     pub fn name(self) -> &'static str
         ensures { result.now ≡ layer_name self }
     {

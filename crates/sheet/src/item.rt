@@ -5,8 +5,8 @@ ghost use Rattle.sheet.specs.Parts.{lies_in, CutFrom};
 use crate::body::Body;
 use crate::contents::Contents;
 
-// What the contents tell, the number of the first body line, and where the body stands in the sheet.
-#[derive(Clone, Copy)]
+// What the contents tell, the number of the first body line, and where the body stands in the sheet: two bounds, since a range is not copied.
+#[derive(Clone, Copy, Default)]
 pub struct Item {
     pub contents: Contents,
     pub first: u64,
@@ -19,19 +19,10 @@ impl Item {
     pub fn body<'a>(&self, sheet: &'a [u8]) -> Option<Body<'a>>
         ensures { MatchOption result (lies_in sheet.now self.now ≡ false) (CutFrom sheet.now self.now) }
     {
-        let contents = self.contents;
-        let start = self.start;
-        let end = self.end;
-        if start > end || end > sheet.len() {
-            return None;
-        }
-        let part = &sheet[start..end];
         Some(Body {
-            kind: contents.kind,
-            lines: contents.lines,
-            count: contents.count,
+            contents: self.contents,
             first: self.first,
-            part,
+            part: sheet.get(self.start..self.end)?,
         })
     }
 }

@@ -8,5 +8,6 @@ pub mod fault;
 pub mod item;
 mod numbers;
 pub mod reader;
+mod rest;
 pub mod sheet;
 mod text;

@@ -1,6 +1,6 @@
 // The numbers of a line, with one space between.
 ghost use Rattle.std.specs.Prelude.{◌≡◌, ◌<◌, length, IfSome, Some, None, MatchOption};
-ghost use Rattle.sheet.specs.Form.{numbers, both, rest_numbers, pair, triple};
+ghost use Rattle.sheet.specs.Form.{numbers, both, rest_numbers, just};
 
 use crate::text::{read_numeral, split_once};
 
@@ -15,26 +15,16 @@ pub fn first_number(line: &[u8]) -> Option<(u32, Option<&[u8]>)>
     }
 }
 
-// The two numbers of a line that holds just two.
-pub fn read_pair(line: &[u8]) -> Option<(u32, u32)>
-    ensures { result ≡ pair (numbers line.now) }
+// The numbers of a line that holds just N.
+pub fn read_numbers<const N: usize>(line: &[u8]) -> Option<[u32; N]>
+    ensures { result ≡ just N (numbers line.now) }
 {
-    let Some((x, Some(rest))) = first_number(line) else {
-        return None;
-    };
-    let Some((y, None)) = first_number(rest) else {
-        return None;
-    };
-    Some((x, y))
-}
-
-// The three numbers of a line that holds just three.
-pub fn read_triple(line: &[u8]) -> Option<(u32, u32, u32)>
-    ensures { result ≡ triple (numbers line.now) }
-{
-    let Some((x, Some(rest))) = first_number(line) else {
-        return None;
-    };
-    let (y, z) = read_pair(rest)?;
-    Some((x, y, z))
+    let mut numbers = [0; N];
+    let mut rest = Some(line);
+    for number in numbers.iter_mut() {
+        let (x, after) = first_number(rest?)?;
+        *number = x;
+        rest = after;
+    }
+    rest.is_none().then_some(numbers)
 }

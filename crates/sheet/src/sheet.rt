@@ -1,12 +1,9 @@
 // The items of a sheet that is accepted.
-ghost use Rattle.std.specs.Prelude.{◌≤◌};
-
 use crate::item::Item;
+use arrayvec::ArrayVec;
 
-// The first `count` of the places hold the items.
-#[derive(Clone, Copy)]
+// The items, in order: at most 16.
+#[derive(Clone, Drop)]
 pub struct Sheet {
-    pub items: [Item; 16],
-    pub count: usize,
-    ghost few: { count ≤ 16 },
+    pub items: ArrayVec<Item, 16>,
 }

@@ -6,12 +6,8 @@ ghost use Rattle.sheet.specs.Text.{pieces, sized, numeral, LinesEnd};
 pub fn split_once(s: &[u8], sep: u8) -> Option<(&[u8], &[u8])>
     ensures { MatchOption result (pieces sep s.now ≡ s.now ∷ []) (λ p. (pieces sep s.now ≡ p.0.now ∷ pieces sep p.1.now) × (length p.0.now + length p.1.now + 1 ≡ length s.now)) }
 {
-    for (i, b) in s.iter().enumerate() {
-        if *b == sep {
-            return Some((&s[0..i], &s[i + 1..]));
-        }
-    }
-    None
+    let at = s.iter().position(|b| *b == sep)?;
+    Some((&s[..at], &s[at + 1..]))
 }
 
 // Where the first `count` lines of a text end; the text's own end where it has fewer.
@@ -48,10 +44,7 @@ pub fn read_numeral(ds: &[u8]) -> Option<u32>
     }
     let mut n = 0;
     for d in ds {
-        if !d.is_ascii_digit() {
-            return None;
-        }
-        n = n * 10 + (*d - b'0') as u32;
+        n = n * 10 + char::from(*d).to_digit(10)?;
     }
     Some(n)
 }

@@ -1,12 +1,6 @@
-use Rattle.std.proofs.Common.{[], ◌∷◌, ◌++◌, refl, inr, arith}
-use Rattle.sheet.proofs.Cutting.{pass_more, pass_short, pass_within, pass_end}
+use Rattle.std.proofs.Common.{[], ◌∷◌, ◌++◌, arith}
+use Rattle.sheet.proofs.Cutting.{pass_more, pass_within, pass_end}
 use Rattle.sheet.proofs.text.lines_end.Goals as goal
-
-pub loop-line-init : goal.loop-line-init
-loop-line-init c = ([], refl, refl)
-
-pub returns-in_default : goal.returns-in_default
-returns-in_default c = inr (refl, pass_short c.args.text.now c.loop-line.rest.now c.loop-line.invariant.0 _ c.loop-line.invariant.1 c.loop-line.invariant.2 c.args.count c.loop-line-test.true c.in_default.ensures)
 
 pub loop-line-preserved : goal.loop-line-preserved
 loop-line-preserved c =
