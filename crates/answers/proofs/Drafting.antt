@@ -1,5 +1,5 @@
 -- One answer more in a draft.
-use Rattle.std.proofs.Common.{◌≡◌, ℕ, suc, ◌+◌, ◌-◌, ◌<◌, List, [], ◌∷◌, ◌++◌, length, take, set, sym, refl, ap, ◌∙◌, ⊎_elim, append_assoc, add-zero, arith, length-append, length-set}
+use Rattle.std.proofs.Common.{◌≡◌, ℕ, suc, ◌+◌, ◌-◌, ◌*◌, ◌^◌, ◌<◌, ◌≤◌, List, [], ◌∷◌, ◌++◌, map, length, take, set, sym, refl, ap, ◌∙◌, ⊎_elim, append_assoc, add-zero, arith, length-append, length-set}
 use Rattle.std.proofs.lemmas.List.{append-nil, set_past, take_all, take-append-le, take_more_set, length_push, map_push}
 use Rattle.std.proofs.lemmas.Bool.{cases_lt}
 use Rattle.sheet.specs.Render.{lines_text}
@@ -8,6 +8,9 @@ use Rattle.answers.specs.declared.head.AnswerKind.{AnswerKind}
 use Rattle.answers.specs.Answers.{Answer, body, head, bodies}
 use Rattle.answers.specs.Drafts.{Drafts, Is}
 use Rattle.answers.specs.Laid.{laid, Puts}
+use Rattle.answers.specs.declared.pen.Pen.{Pen}
+use Rattle.answers.specs.Pens.{Writes}
+use Rattle.answers.proofs.Pens.{puts_of}
 
 -- a buffer of `room` bytes that begins with a text, as far as there is room, and one byte more
 kept_one : (room : ℕ) (old : List ℕ) (at b : ℕ) (text : List ℕ) → length old ≡ room → length text ≡ at → take at old ≡ take room text → take (at + 1) (set old at b) ≡ take room (text ++ b ∷ [])
@@ -37,6 +40,18 @@ bodies_append (x ∷ xs) ys = ap (λ z. body x ++ z) (bodies_append xs ys) ∙ s
 pub bodies_push : (xs : List Answer) (a : Answer) → lines_text (bodies (xs ++ a ∷ [])) ≡ lines_text (bodies xs) ++ lines_text (body a)
 bodies_push xs a = ap lines_text (bodies_append xs (a ∷ [])) ∙ lines_append (bodies xs) (body a ++ []) ∙ ap (λ z. lines_text (bodies xs) ++ lines_text z) (append-nil (body a))
 
+-- lines of fewer than 256 bytes
+lines_long : {A : Type 0} (f : A → List ℕ) → ((x : A) → length (f x) < 256) → (xs : List A) → length (lines_text (map f xs)) ≤ length xs * 256
+lines_long f short [] = omega arith
+lines_long f short (x ∷ xs) = omega (arith, short x, lines_long f short xs, length-append (f x ++ 10 ∷ []) (lines_text (map f xs)), length-append (f x) (10 ∷ []))
+
+module _ {A : Type 0} (f : A → List ℕ) (short : (x : A) → length (f x) < 256) (xs : List A) (few : length xs < 2 ^ 32) (p q : Pen) (writes : Writes p (lines_text (map f xs)) q) (counted : p.at ≤ 2 ^ 48) where
+  pub lines_laid : Puts p.out.now p.at (lines_text (map f xs)) q.at q.out.now
+  lines_laid = puts_of p q _ _ writes (omega (arith, lines_long f short xs)) refl
+
+  pub lines_more : (p.at ≤ q.at) × (q.at ≤ p.at + 2 ^ 40)
+  lines_more = (omega (arith, lines_laid.place), omega (arith, lines_laid.place, lines_long f short xs))
+
 -- what is told of an answer
 head_is : (a : Answer) (k : AnswerKind) (n : ℕ) (ls : List (List ℕ)) (m z : ℕ) → Is a k n ls → m ≡ length ls → z ≡ length (lines_text ls) → record { kind = k; lines = n; count = m; size = z } ≡ head a
 head_is a k n ls m z is em ez =
@@ -45,18 +60,15 @@ head_is a k n ls m z is em ez =
     λ j. record { kind = sym is.kind j; lines = sym is.lines j; count = count j; size = size j }
 
 module _ (old new : Draft) (xs : List Answer) (d : Drafts old xs) (a : Answer) (k : AnswerKind) (n : ℕ) (ls : List (List ℕ)) (is : Is a k n ls) (m : ℕ) (em : m ≡ length ls)
-    (free : old.count < 16) (laid-after : Puts old.bodies old.size (lines_text ls) new.size new.bodies)
-    (heads-are : new.heads ≡ set old.heads old.count (record { kind = k; lines = n; count = m; size = new.size - old.size })) (one : new.count ≡ old.count + 1) where
+    (laid-after : Puts old.bodies old.size (lines_text ls) new.size new.bodies)
+    (heads-are : new.heads.items ≡ old.heads.items ++ record { kind = k; lines = n; count = m; size = new.size - old.size } ∷ []) where
   grown : new.size - old.size ≡ length (lines_text ls)
   grown = omega (arith, laid-after.place)
 
   pub drafts_more : Drafts new (xs ++ a ∷ [])
   drafts_more =
       record {
-        count = one ∙ ap (λ c. c + 1) d.count ∙ sym (length_push xs a);
-        heads =
-            (λ j. take (one j) (heads-are j)) ∙ take_more_set old.heads old.count _ (omega (arith, old.places))
-            ∙ (λ j. d.heads j ++ head_is a k n ls m (new.size - old.size) is em grown j ∷ []) ∙ sym (map_push head xs a);
+        heads = heads-are ∙ (λ j. d.heads j ++ head_is a k n ls m (new.size - old.size) is em grown j ∷ []) ∙ sym (map_push head xs a);
         size = omega (arith, laid-after.place, d.size, length-append (lines_text (bodies xs)) (lines_text (body a)), ap length (bodies_push xs a), ap (λ b. length (lines_text b)) is.body);
         bytes =
             (λ j. take (laid-after.place j) (laid-after.bytes j))

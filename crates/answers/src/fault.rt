@@ -1,27 +1,31 @@
 // The line of a fault.
 ghost use Rattle.std.specs.Prelude.{◌≡◌};
-ghost use Rattle.gates.specs.Refusals.{number};
 ghost use Rattle.answers.specs.Answers.{fault_text};
 ghost use Rattle.answers.specs.Laid.{Puts};
+ghost use Rattle.answers.specs.Pens.{Writes};
 
-use crate::number::{put_byte, put_bytes, put_field};
+use crate::pen::Pen;
 use sheet::fault::Fault;
 
-// The numbers on the line of a fault, in order: that of its reason, and its line.
-fn fault_fields(fault: Fault) -> (u64, u64)
-    ensures { result ≡ (number fault.why, fault.line) }
-{
-    (fault.why.number() as u64, fault.line)
+impl Pen<'_> {
+    // The number of a fault's reason, its line and its layer.
+    #[tactic(auto, using(crate::proofs::Faults::wrote_fault))]
+    fn fault(&mut self, fault: Fault)
+        ensures { Writes self.old (fault_text fault) self.new }
+    {
+        self.bytes(b"F ");
+        self.numbers(&[fault.why.number().into(), fault.line]);
+        self.byte(b' ');
+        self.bytes(fault.layer.name().as_bytes());
+        self.byte(b'\n');
+    }
 }
 
 // Lays the line of a fault into a buffer from its start, and answers the line's length. Bytes past the buffer's end are left out.
 pub fn write_fault(fault: Fault, out: &mut [u8]) -> usize
     ensures { Puts out.old 0 (fault_text fault) result out.new }
 {
-    let (first, second) = fault_fields(fault);
-    let start = put_bytes(out, 0, b"F ");
-    let line = put_field(out, start, first, b' ');
-    let layer = put_field(out, line, second, b' ');
-    let end = put_bytes(out, layer, fault.layer.name().as_bytes());
-    put_byte(out, end, b'\n')
+    let mut pen = Pen { out, at: 0 };
+    pen.fault(fault);
+    pen.at
 }

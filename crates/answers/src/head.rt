@@ -5,14 +5,15 @@ ghost use Rattle.answers.specs.Answers.{capital};
 use sheet::contents::Kind;
 
 // An item as on an order sheet, or a clash.
-#[derive(Clone, Copy)]
+#[derive(Clone, Copy, Default)]
 pub enum AnswerKind {
     Item(Kind),
+    #[default]
     Clash,
 }
 
 // The kind of an answer, its line count n, and how many lines and bytes its body has.
-#[derive(Clone, Copy)]
+#[derive(Clone, Copy, Default)]
 pub struct Head {
     pub(crate) kind: AnswerKind,
     pub(crate) lines: u8,
@@ -20,16 +21,8 @@ pub struct Head {
     pub(crate) size: usize,
 }
 
-// What stands in a place that no answer has.
-pub(crate) const UNUSED: Head = Head {
-    kind: AnswerKind::Clash,
-    lines: 0,
-    count: 0,
-    size: 0,
-};
-
 impl AnswerKind {
-    // The capital that names the kind.
+    // The capital that names the kind. It is no `From`, since `kind.capital()` tells more than `kind.into()`.
     pub(crate) fn capital(self) -> u8
         ensures { result ≡ capital self }
     {

@@ -6,4 +6,4 @@ pub mod draft;
 pub mod fault;
 pub mod head;
 mod line;
-mod number;
+mod pen;

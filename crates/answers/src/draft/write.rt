@@ -5,37 +5,27 @@ ghost use Rattle.answers.specs.Answers.{Answer, heading, Written};
 ghost use Rattle.answers.specs.Drafts.{Drafts};
 ghost use Rattle.answers.specs.Laid.{Puts};
 
-use crate::contents::{decline, first_unfit, put_heading, usable};
+use crate::contents::{decline, first_unfit, usable};
 use crate::draft::Draft;
-use crate::head::Head;
-use crate::number::put_bytes;
+use crate::pen::Pen;
 use sheet::fault::Fault;
 
 impl Draft {
-    // What is told of the answers before their bodies.
-    fn heads(&self) -> &[Head]
-        ensures { result.now ≡ take self.now.count self.now.heads }
-    {
-        &self.heads[0..self.count]
-    }
-
     // The text of the bodies, as far as there is room for it.
     fn text(&self) -> &[u8]
         ensures { result.now ≡ take self.now.size self.now.bodies }
     {
-        if self.size < 65536 {
-            &self.bodies[0..self.size]
-        } else {
-            &self.bodies
-        }
+        &self.bodies[..self.size.min(self.bodies.len())]
     }
 
     // Line 1, the contents lines and the bodies.
     fn lay(&self, out: &mut [u8]) -> usize
-        ensures { Puts out.old 0 (lines_text (heading (take self.now.count self.now.heads)) ++ take self.now.size self.now.bodies) result out.new }
+        ensures { Puts out.old 0 (lines_text (heading self.now.heads.items) ++ take self.now.size self.now.bodies) result out.new }
     {
-        let end = put_heading(out, self.heads());
-        put_bytes(out, end, self.text())
+        let mut pen = Pen { out, at: 0 };
+        pen.heading(&self.heads);
+        pen.bytes(self.text());
+        pen.at
     }
 
     // Writes the answer sheet into a buffer, of which it uses at most the first 65,536 bytes, and answers its length. Where an answer
@@ -44,7 +34,7 @@ impl Draft {
         ensures { (xs : List Answer) → Drafts self.now xs → Written xs out.old result out.new }
     {
         let room = usable(out);
-        match first_unfit(self.heads(), room) {
+        match first_unfit(&self.heads, room) {
             Some(line) => Err(decline(out, room, line)),
             None => Ok(self.lay(out)),
         }
