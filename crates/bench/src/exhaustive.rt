@@ -1,4 +1,5 @@
 // The runs of all tables of three lines whose images differ.
+use crate::random::arrange;
 use books::Book;
 use gates::mct::Mct;
 use mapping::rule::RowMapping;
@@ -10,7 +11,7 @@ use tables::table::Table;
 const TABLES: usize = 40320;
 
 // What the runs came to.
-#[derive(Clone, Copy)]
+#[derive(Clone, Copy, Default)]
 struct Account {
     at_identity: usize,
     gates: usize,
@@ -19,11 +20,7 @@ struct Account {
 
 // Runs every table, and prints how many came to identity, the average number of gates, and the largest.
 pub(crate) fn run_all_tables(rt: &impl Print) -> io::Result<()> {
-    let mut account = Account {
-        at_identity: 0,
-        gates: 0,
-        most: 0,
-    };
+    let mut account = Account::default();
     let mut images = [0; 8];
     let mut places = [Mct {
         controls: 0,
@@ -46,7 +43,7 @@ pub(crate) fn run_all_tables(rt: &impl Print) -> io::Result<()> {
 
 fn tally_tables(images: &mut [u64], places: &mut [Mct], account: &mut Account) {
     for index in 0..TABLES {
-        arrange(index, images);
+        arrange_by(index, images);
         if let Ok(mut table) = Table::new(3, images) {
             let mut book = Book::new(places);
             if RowMapping.run(&mut table, &mut book).is_ok() && table.is_identity() {
@@ -58,13 +55,12 @@ fn tally_tables(images: &mut [u64], places: &mut [Mct], account: &mut Account) {
     }
 }
 
-// One order of the words for each index: the digits of the index, each to a larger base, tell which two are exchanged.
-fn arrange(index: usize, words: &mut [u64]) {
+// One order of the words for each index: the digits of the index, each to a larger base, tell their places.
+fn arrange_by(index: usize, words: &mut [u64]) {
     let mut rest = index;
-    for at in 0..words.len() {
-        let other = rest % (at + 1);
-        rest /= at + 1;
-        words[at] = words[other];
-        words[other] = at as u64;
-    }
+    arrange(words, |n| {
+        let place = rest % n;
+        rest /= n;
+        place
+    });
 }

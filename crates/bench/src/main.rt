@@ -18,13 +18,24 @@ use pieces::rule::Rule;
 use places::tell_places;
 use random::Random;
 use std::rt::Clock;
-use std::time::{Duration, Instant};
+use std::time::Instant;
 use std::{env, io};
 
 const RUNS: u64 = 50;
 
+// What stands in a place that no gate has.
+const CNOT: Cnot = Cnot {
+    control: 0,
+    target: 0,
+};
+
+const MCT: Mct = Mct {
+    controls: 0,
+    target: 0,
+};
+
 // What some runs came to.
-#[derive(Clone, Copy)]
+#[derive(Clone, Copy, Default)]
 struct Tally {
     gates: u64,
     micros: u64,
@@ -34,58 +45,38 @@ fn main(rt: HostRuntime) -> io::Result<()> {
     let timed = env::args(&rt)?.count() > 1;
     let mut random = Random::new(1);
     for lines in [8, 16, 32, 64] {
-        let mut places = [Cnot {
-            control: 0,
-            target: 0,
-        }; 8127];
-        let tally = run_matrices(&rt, lines, &mut random, &mut places)?;
+        let mut places = [CNOT; 8127];
+        let tally = run_many(&rt, &Elimination, || random.matrix(lines), &mut places)?;
         tell(&rt, "matrices", lines, tally, timed)?;
     }
     for lines in [4, 6, 8] {
-        let mut places = [Mct {
-            controls: 0,
-            target: 0,
-        }; 2040];
-        let tally = run_tables(&rt, lines, &mut random, &mut places)?;
+        let mut places = [MCT; 2040];
+        let tally = run_many(&rt, &RowMapping, || random.table(lines), &mut places)?;
         tell(&rt, "tables", lines, tally, timed)?;
     }
     run_all_tables(&rt)?;
     tell_places(&rt)
 }
 
-fn run_matrices(
+// Runs a rule on one piece after another, each drawn as it is wanted.
+fn run_many<G, P, R, D>(
     clock: &impl Clock,
-    lines: u8,
-    random: &mut Random,
-    places: &mut [Cnot],
-) -> io::Result<Tally> {
-    let mut tally = Tally {
-        gates: 0,
-        micros: 0,
-    };
+    rule: &R,
+    mut draw: D,
+    places: &mut [G],
+) -> io::Result<Tally>
+where
+    G: Gate,
+    P: Piece<G> + Drop,
+    R: Rule<G, P>,
+    D: FnMut() -> Option<P>,
+    requires { (d : D) → D.pre d }
+{
+    let mut tally = Tally::default();
     for _ in 0..RUNS {
-        if let Some(mut matrix) = random.matrix(lines) {
+        if let Some(mut piece) = draw() {
             let mut book = Book::new(places);
-            run(clock, &Elimination, &mut matrix, &mut book, &mut tally)?;
-        }
-    }
-    Ok(tally)
-}
-
-fn run_tables(
-    clock: &impl Clock,
-    lines: u8,
-    random: &mut Random,
-    places: &mut [Mct],
-) -> io::Result<Tally> {
-    let mut tally = Tally {
-        gates: 0,
-        micros: 0,
-    };
-    for _ in 0..RUNS {
-        if let Some(mut table) = random.table(lines) {
-            let mut book = Book::new(places);
-            run(clock, &RowMapping, &mut table, &mut book, &mut tally)?;
+            run(clock, rule, &mut piece, &mut book, &mut tally)?;
         }
     }
     Ok(tally)
@@ -104,15 +95,11 @@ fn run<G: Gate, P: Piece<G>, R: Rule<G, P>>(
     let took = start.elapsed(clock)?;
     if ran.is_ok() {
         tally.gates = tally.gates.saturating_add(book.len() as u64);
-        tally.micros = tally.micros.saturating_add(micros(took));
+        tally.micros = tally
+            .micros
+            .saturating_add(took.as_micros().min(u64::MAX as u128) as u64);
     }
     Ok(())
-}
-
-fn micros(took: Duration) -> u64 {
-    took.as_secs()
-        .saturating_mul(1_000_000)
-        .saturating_add(u64::from(took.subsec_micros()))
 }
 
 // The average number of gates, to a hundredth, and the runs in a second if they were timed.

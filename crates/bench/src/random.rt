@@ -1,4 +1,6 @@
 // Random matrices and tables, from a seed.
+ghost use Rattle.std.specs.Prelude.{◌<◌};
+
 use gates::cnot::Cnot;
 use matrices::matrix::Matrix;
 use pieces::piece::Piece;
@@ -54,11 +56,21 @@ impl Random {
 
     // The table of the words in random order, written into these places.
     fn shuffled(&mut self, lines: u8, images: &mut [u64]) -> Option<Table> {
-        for at in 0..images.len() {
-            let other = (self.word() % (at as u64 + 1)) as usize;
-            images[at] = images[other];
-            images[other] = at as u64;
-        }
+        arrange(images, |n| (self.word() % n as u64) as usize);
         Table::new(lines, images).ok()
+    }
+}
+
+// Writes the words 0, 1 and so on in an order: `choose` tells at which of the first n places the next word goes, and what stood
+// there moves to the last of them. By index, since each step reads and writes two places.
+pub(crate) fn arrange<F>(words: &mut [u64], mut choose: F)
+where
+    F: FnMut(usize) -> usize,
+    requires { (f : F) (n : _) → 0 < n → F.pre f n }
+{
+    for at in 0..words.len() {
+        let other = choose(at + 1).min(at);
+        words[at] = words[other];
+        words[other] = at as u64;
     }
 }

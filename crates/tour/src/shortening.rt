@@ -4,11 +4,12 @@ ghost use Rattle.words.specs.Maps.{Same};
 ghost use Rattle.gates.specs.Circuits.{through};
 ghost use Rattle.takers.specs.GateLists.{list_meaning};
 
-use crate::telling::{print_gates, print_refusal};
+use crate::stop::Stop;
+use crate::telling::print_gates;
 use gates::gate::Gate;
 use gates::probed::Probed;
 use gates::refusal::Refusal;
-use std::{fmt, io};
+use std::fmt;
 use takers::feed::feed;
 use takers::list::GateList;
 use takers::shorten::shorten;
@@ -25,25 +26,20 @@ pub(crate) fn shorten_and_tell<G: Probed + fmt::Display>(
     gates: &[G],
     given_memory: &mut [G],
     left_memory: &mut [G],
-) -> io::Result<()> {
-    let given = match listed(n, gates, given_memory) {
-        Ok(list) => list,
-        Err(why) => return print_refusal(rt, why),
-    };
+) -> Result<(), Stop> {
+    let given = listed(n, gates, given_memory)?;
     print_gates(rt, "given", given.gates())?;
-    let left = match shortened(&given, left_memory) {
-        Ok(list) => list,
-        Err(why) => return print_refusal(rt, why),
-    };
+    let left = shortened(&given, left_memory)?;
     let cancelled = given.gates().len().saturating_sub(left.gates().len());
     println!(rt; "  cancelled {cancelled}")?;
     print_gates(rt, "left", left.gates())?;
     print_images(rt, &left)?;
-    match given.same_map(&left) {
-        Ok(true) => println!(rt; "  the map is the same"),
-        Ok(false) => println!(rt; "  the map is another"),
-        Err(why) => print_refusal(rt, why),
+    if given.same_map(&left)? {
+        println!(rt; "  the map is the same")?;
+    } else {
+        println!(rt; "  the map is another")?;
     }
+    Ok(())
 }
 
 // The gates as a list on n lines.
@@ -70,7 +66,7 @@ fn shortened<'a, G: Gate>(
     Ok(list)
 }
 
-fn print_images<G: Gate>(rt: &impl Print, list: &GateList<G>) -> io::Result<()> {
+fn print_images<G: Gate>(rt: &impl Print, list: &GateList<G>) -> Result<(), Stop> {
     let n = list.lines();
     if n <= FEW_LINES {
         for word in 0..1u64 << n {
@@ -84,9 +80,8 @@ fn print_images<G: Gate>(rt: &impl Print, list: &GateList<G>) -> io::Result<()> 
     Ok(())
 }
 
-fn print_image<G: Gate>(rt: &impl Print, list: &GateList<G>, word: u64) -> io::Result<()> {
-    match list.image(word) {
-        Ok(image) => println!(rt; "  {word} becomes {image}"),
-        Err(why) => print_refusal(rt, why),
-    }
+fn print_image<G: Gate>(rt: &impl Print, list: &GateList<G>, word: u64) -> Result<(), Stop> {
+    let image = list.image(word)?;
+    println!(rt; "  {word} becomes {image}")?;
+    Ok(())
 }

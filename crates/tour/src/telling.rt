@@ -31,3 +31,22 @@ pub(crate) fn print_refusal(rt: &impl Print, why: Refusal) -> io::Result<()> {
     let number = why.number();
     println!(rt; "  declined by {number}: {why}")
 }
+
+// Prints the image of each word that has one under both maps, up to the first that differs, and tells whether none did.
+pub(crate) fn tell_images<A, B>(rt: &impl Print, image: A, other: B) -> io::Result<bool>
+where
+    A: Fn(u64) -> Result<u64, Refusal>,
+    B: Fn(u64) -> Result<u64, Refusal>,
+    requires image { A.IsAlwaysCallable image }
+    requires other { B.IsAlwaysCallable other }
+{
+    for word in 0..256 {
+        if let (Ok(image), Ok(other)) = (image(word), other(word)) {
+            println!(rt; "  {word} becomes {image}")?;
+            if image != other {
+                return Ok(false);
+            }
+        }
+    }
+    Ok(true)
+}

@@ -3,15 +3,15 @@ ghost use Rattle.std.specs.Prelude.{◌≡◌, true};
 ghost use Rattle.books.specs.Ends.{sound};
 ghost use Rattle.books.specs.Books.{ends};
 
-use crate::telling::{print_gates, print_refusal};
+use crate::stop::Stop;
+use crate::telling::{print_gates, print_refusal, tell_images};
 use books::Book;
 use gates::end::End;
 use gates::gate::Gate;
 use gates::mct::Mct;
 use gates::refusal::Refusal;
-use job::by_hand::conduct_by_hand;
 use job::call::Edit;
-use job::conduct::Ending;
+use job::conduct::{Ending, conduct};
 use job::step::Step;
 use job::ticket::Ticket;
 use pieces::piece::Piece;
@@ -27,19 +27,16 @@ pub(crate) fn work_by_hand(
     steps: &mut [Step<Edit<Mct>>],
     book: &mut Book<Mct>,
     list: &mut GateList<Mct>,
-) -> io::Result<()> {
+) -> Result<(), Stop> {
     let mut piece = table;
     let ended = conducted(&mut piece, steps, book, list);
     for step in steps {
         print_step(rt, step)?;
     }
-    match ended {
-        Ok(()) => {
-            print_gates(rt, "delivered", list.gates())?;
-            tell_map(rt, &table, list)
-        }
-        Err(why) => print_refusal(rt, why),
-    }
+    ended?;
+    print_gates(rt, "delivered", list.gates())?;
+    tell_map(rt, &table, list)?;
+    Ok(())
 }
 
 // The whole job. Where the delivery is declined, it is given up.
@@ -49,7 +46,7 @@ fn conducted<G: Gate, P: Piece<G>, T: Taker<G>>(
     book: &mut Book<G>,
     taker: &mut T,
 ) -> Result<(), Refusal> {
-    match conduct_by_hand(piece, book, steps, Ending::Deliver, taker)? {
+    match conduct(piece, book, steps, Ending::Deliver, taker)? {
         Ok(()) => Ok(()),
         Err((ticket, why)) => {
             abandon(ticket, piece, book);
@@ -85,13 +82,9 @@ fn print_step(rt: &impl Print, step: &Step<Edit<Mct>>) -> io::Result<()> {
 
 // Tells whether the list makes of each word what the table does.
 fn tell_map(rt: &impl Print, table: &Table, list: &GateList<Mct>) -> io::Result<()> {
-    for word in 0..256 {
-        if let (Ok(image), Ok(made)) = (table.image(word), list.image(word)) {
-            println!(rt; "  {word} becomes {made}")?;
-            if made != image {
-                return println!(rt; "  the table has another image");
-            }
-        }
+    if tell_images(rt, |word| list.image(word), |word| table.image(word))? {
+        println!(rt; "  as in the table")
+    } else {
+        println!(rt; "  the table has another image")
     }
-    println!(rt; "  as in the table")
 }
