@@ -11,7 +11,7 @@ use Rattle.books.specs.Places.{Pushed}
 use Rattle.books.specs.declared.Book.{Book}
 
 module _ {G : Type 0} (e : End) (g : G) where
-  held_put : (es : Ends G) → held (put e g es) ≡ held es + 1
+  pub held_put : (es : Ends G) → held (put e g es) ≡ held es + 1
   held_put es = elim e as (λ e. held (put e g es) ≡ held es + 1) [
     | Input ↦ simp length-append (omega arith)
     | Output ↦ simp length-append (omega arith)

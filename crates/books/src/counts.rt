@@ -1,5 +1,5 @@
-// The counts of a book's gates, and how they change. A field for each end reads plainer than an array of two. What each call leaves
-// as it was is said by each.
+// The counts of a book's gates, and how they change. A match in each call: a count lent to be written could break what the type
+// says of both.
 ghost use Rattle.std.specs.Prelude.{◌≡◌, ◌<◌};
 ghost use Rattle.books.specs.Places.{tally, Room, counts, more, fewer};
 

@@ -72,7 +72,7 @@ impl<'a, G: Copy> Book<'a, G> {
         }
     }
 
-    // One gate more at an end.
+    // One gate more at an end. What stays of the memory is said by each call that writes.
     #[tactic(auto, using(crate::proofs::BookLaws::room))]
     pub fn push(&mut self, end: End, gate: G) -> Result<(), Refusal>
         ensures answer { result ≡ answer (short 1 (free self.old)) }

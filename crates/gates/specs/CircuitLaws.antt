@@ -41,7 +41,7 @@ module _ {G : Type 0} (K : Kind G) (law : Lawful K) (n : ℕ) where
   through_keeps [] x h = h
   through_keeps (g ∷ gs) x h = through_keeps gs (K.act n g x) (law.keeps n g x h)
 
-  -- a gate undoes itself: the only use of that law, here for whole lists
+  -- a gate undoes itself
   pub undone : (g : G) (x : ℕ) → K.act n g (K.act n g x) ≡ x
   undone g x = law.twice n g x
 

@@ -1,16 +1,29 @@
 // Circuits: gates in the order in which a word passes them.
-ghost use Rattle.std.specs.Prelude.{◌≡◌, ◌==◌, Decides};
+ghost use Rattle.std.specs.Prelude.{◌≡◌, ◌==◌, None, Decides};
 ghost use Rattle.words.specs.Maps.{Same};
 ghost use Rattle.gates.specs.Circuits.{through, all_legal};
+ghost use Rattle.gates.specs.Refusals.{answer, unless_legal};
 
 use crate::gate::Gate;
 use crate::probed::Probed;
+use crate::refusal::Refusal;
 
 // Whether all gates are legal on n lines.
 pub fn all_legal<G: Gate>(gates: &[G], n: u8) -> bool
     ensures { result ≡ all_legal G.Gate.kind n gates.now }
 {
     gates.iter().all(|gate| gate.is_legal(n))
+}
+
+// Declines a circuit with an illegal gate.
+pub fn check<G: Gate>(gates: &[G], n: u8) -> Result<(), Refusal>
+    ensures { result ≡ answer (unless_legal (all_legal G.Gate.kind n gates.now) None) }
+{
+    if all_legal(gates, n) {
+        Ok(())
+    } else {
+        Err(Refusal::IllegalGate)
+    }
 }
 
 // What the gates make of a word on n lines.

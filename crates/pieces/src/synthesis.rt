@@ -1,5 +1,5 @@
-// The interface of pieces that have a run, which finds the gates that bring the map to identity. A `Rule` says the same of a run that
-// stands apart from its piece; a piece with a run of its own asks its callers for no rule.
+// The interface of pieces that have a run, which finds the gates that bring the map to identity. A `Rule` says the same of a
+// run that stands apart from its piece; a piece with a run of its own asks its callers for no rule.
 ghost use Rattle.std.specs.Prelude.{◌≡◌, MatchResult};
 ghost use Rattle.books.specs.Books.{Kept};
 ghost use Rattle.pieces.specs.Runs.{Plan, RunTells, Ran};

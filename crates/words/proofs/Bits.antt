@@ -43,7 +43,7 @@ bit_half x i = ap (λ (z : ℕ). z % 2) (shr-shr x 1 i ∙ ap (λ (k : ℕ). x /
 pub bit_none : (i : ℕ) → bit 0 i ≡ 0
 bit_none i = ap (λ (z : ℕ). z % 2) (zero-div (2 ^ i))
 
-no_bits : (x : ℕ) → ((i : ℕ) → bit x i ≡ 0) → x ≡ 0
+pub no_bits : (x : ℕ) → ((i : ℕ) → bit x i ≡ 0) → x ≡ 0
 no_bits =
     bin_ind (λ x. ((i : ℕ) → bit x i ≡ 0) → x ≡ 0) (λ h. omega arith)
     (λ x ih h.
