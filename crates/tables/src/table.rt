@@ -5,8 +5,8 @@ mod images;
 mod make;
 mod piece;
 
-// Only the first 2^lines images count: an array, and no `ArrayVec`, since a table is `Copy`. The fields are open to a crate above that has a faster way to put its gates in: that
-// the images stay words is proved there.
+// Only the first 2^lines images count: an array, and no `ArrayVec`, since a table is `Copy`. The fields are open to a crate
+// above that has a faster way to put its gates in: that the images stay words is proved there.
 #[derive(Clone, Copy)]
 pub struct Table {
     pub lines: u8,

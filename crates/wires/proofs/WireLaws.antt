@@ -26,17 +26,20 @@ abbrev planned : ℕ → List (End × Mct)
 planned z = cond (eqb z 0) [] ((Output, invert) ∷ [])
 
 -- what a piece of these images means
+abbrev map_of : List ℕ → ℕ → ℕ
+map_of images x = cond (eqb x 0) (slice_index images 0) (slice_index images 1)
+
 abbrev meaning : List ℕ → Meaning
-meaning images = record { lines = 1; map = slice_index images }
+meaning images = record { lines = 1; map = map_of images }
 
 module _ (w : Wire) where
   -- the image of a word
   abbrev at : ℕ → ℕ
-  at = slice_index w.images
+  at = map_of w.images
 
   -- a run that finds these gates and leaves these images
   ran : (ps : List (End × Mct)) (images : List ℕ) (b b' : Book Mct) → wire_plan.gates 1 at ≡ ps → Alike 1 (shown (meaning images) b') (all_found mct 1 ps (shown (wire_meaning w) b)) →
-      gates_legal mct 1 ps ≡ true → length ps ≤ 1 → Identity 1 (slice_index images) → Ran mct wire_plan (wire_meaning w) b (meaning images) b'
+      gates_legal mct 1 ps ≡ true → length ps ≤ 1 → Identity 1 (map_of images) → Ran mct wire_plan (wire_meaning w) b (meaning images) b'
   ran ps images b b' is alike legal few identity = record {
     same_lines = refl;
     found = subst (λ qs. Alike 1 (shown (meaning images) b') (all_found mct 1 qs (shown (wire_meaning w) b))) (sym is) alike;
@@ -57,7 +60,7 @@ module _ (w : Wire) where
   ran_one b b' nz differ found =
       let z : at 0 ≡ 1 = omega (arith, w.fits 0) in
       let o : at 1 ≡ 0 = omega (arith, w.fits 0, w.fits 1) in
-      let straight = slice_index (0 ∷ 1 ∷ []) in
+      let straight = map_of (0 ∷ 1 ∷ []) in
       let here : Same 1 straight (moved mct 1 Output invert at) =
       both_words (λ x. straight x ≡ moved mct 1 Output invert at x) (sym (ap (mct.act 1 invert) z)) (sym (ap (mct.act 1 invert) o)) in
       ran ((Output, invert) ∷ []) (0 ∷ 1 ∷ []) b b' (ap planned z) (record { map = here; ends = found }) refl (lit≤ tt) (both_words (λ x. straight x ≡ x) refl refl)

@@ -10,7 +10,7 @@ use Rattle.wires.specs.declared.wire.Wire.{Wire}
 
 -- One line, and the image of each of its words.
 abbrev pub wire_meaning : Wire → Meaning
-wire_meaning w = record { lines = 1; map = slice_index w.images }
+wire_meaning w = record { lines = 1; map = λ x. cond (x == 0) (slice_index w.images 0) (slice_index w.images 1) }
 
 -- Why a piece is not made of these images of 0 and 1: the first that is no word on one line.
 abbrev pub unfit : (a b : ℕ) → Option Refusal

@@ -11,9 +11,9 @@ impl Wire {
         ensures { Made zero one result }
     {
         let images = [zero, one];
-        match first_wide(1, &images) {
-            Some(row) => Err(Refusal::WideRow { row }),
-            None => Ok(Wire { images }),
+        if let Some(row) = first_wide(1, &images) {
+            return Err(Refusal::WideRow { row });
         }
+        Ok(Wire { images })
     }
 }

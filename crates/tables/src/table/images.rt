@@ -21,7 +21,7 @@ impl Table {
         &self.images[..word_count(self.lines)]
     }
 
-    // The image of a word. That a number is a word of this table is a fact of both, so that each function below asks it.
+    // The image of a word. Whether a number is one of its words depends on the table too, so no type can say it.
     pub(super) fn at(&self, word: usize) -> u8
         requires { word < 2 ^ self.now.lines }
         ensures is { result ≡ (table_meaning self.now).map word }

@@ -16,10 +16,10 @@ impl Table {
         if !is_size(lines, images.len()) {
             return Err(Refusal::WrongSize);
         }
-        match first_wide(lines, images) {
-            Some(row) => Err(Refusal::WideRow { row }),
-            None => Ok(Table::by(lines, |word| images[word] as u8)),
+        if let Some(row) = first_wide(lines, images) {
+            return Err(Refusal::WideRow { row });
         }
+        Ok(Table::by(lines, |word| images[word] as u8))
     }
 
     // The table in which every word is its own image.

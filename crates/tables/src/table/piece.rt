@@ -71,7 +71,7 @@ impl<G: Gate> Piece<G> for Table {
         self.clash()
     }
 
-    // The two ends differ in the function of words alone, which `by` takes.
+    // The interface has a method for each end; they differ in the function of words alone, which `by` takes.
     fn input(&mut self, gate: G) -> Result<(), Refusal> {
         gate.check(self.lines)?;
         *self = Table::by(self.lines, |word| self.input_image(gate, word));
