@@ -5,7 +5,8 @@ mod entries;
 mod trial;
 
 // For the output end: the rows of the matrix and the columns of the inverse.
-// For the input end: the columns of the matrix and the rows of the inverse. Words of one place in the two do not belong together.
+// For the input end: the columns of the matrix and the rows of the inverse. An addition changes word `to` of one
+// and word `from` of the other, so that pairs of words would be no plainer.
 #[derive(Clone, Copy)]
 pub(crate) struct Half {
     first: [u64; 64],

@@ -1,5 +1,6 @@
-// A matrix beside its inverse, in two layouts. What always holds of a pair is its ghost field. That a line or an addition lies within it
-// is a fact of both, and that a trial leaves it as it was is what a function does: so each function says these.
+// A matrix beside its inverse, in two layouts. The ghost field says what holds of every pair. Whether a line lies within it
+// depends on the line too, so each function asks it; that a trial restores the pair, and how large a weight or a cost is, each
+// says itself.
 ghost use Rattle.elimination.specs.Layouts.{Sound};
 
 use crate::half::Half;

@@ -8,7 +8,7 @@ pub(crate) struct Placed {
     pub(crate) gate: Cnot,
 }
 
-// What stands in the places of a list that are not in use. By hand, since an `End` has no default of its own.
+// What a list keeps in its unused places. By hand: no end is the usual one.
 impl Default for Placed {
     fn default() -> Placed {
         Placed {

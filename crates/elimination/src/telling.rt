@@ -12,7 +12,8 @@ use gates::refusal::Refusal;
 use matrices::matrix::Matrix;
 use pieces::piece::Piece;
 
-// In how many entries the matrix and its inverse differ from identity. A matrix under which two words share an image is declined.
+// In how many entries the matrix and its inverse differ from identity. A matrix under which two words share an image is
+// declined.
 pub fn cost(matrix: &Matrix) -> Result<u32, Refusal>
     ensures { CostTold (matrix_meaning matrix.now) result }
 {

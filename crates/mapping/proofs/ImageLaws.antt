@@ -214,9 +214,6 @@ pub record Passed (g : Mct) (xs ys : List ℕ) (i : ℕ) : Type 0 where
   pub left : (x : ℕ) → i ≤ x → get_or ys x 0 ≡ get_or xs x 0
 
 module _ (g : Mct) (xs : List ℕ) where
-  pub none_passed : Passed g xs xs 0
-  none_passed = record { long = refl; made = λ x h. absurd (omega arith); left = λ x h. refl }
-
   module _ (ys : List ℕ) (i : ℕ) (p : Passed g xs ys i) where
     pub passed_more : (v : ℕ) → i < length ys → v ≡ flip_of g (get_or ys i 0) → Passed g xs (set ys i v) (i + 1)
     passed_more v h e =

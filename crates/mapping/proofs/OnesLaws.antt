@@ -1,10 +1,10 @@
 -- The ones of words, and those that another word lacks.
-use Rattle.std.proofs.Common.{◌≡◌, ℕ, ◌+◌, ◌-◌, ◌/◌, ◌%◌, ◌^◌, ◌<◌, min, max, sym, refl, ap, ◌∙◌, mod-eq_of_lt, arith}
+use Rattle.std.proofs.Common.{◌≡◌, ℕ, ◌+◌, ◌-◌, ◌/◌, ◌%◌, ◌^◌, ◌<◌, min, max, refl, ap, ◌∙◌, mod-eq_of_lt, arith}
 use lib.Arith.{bin_ind}
 use lib.Bits.{bit_and, bit_or, bit_xor, and_comm, and_mask, or_shr, or_step, xor_add_and}
 use lib.Count.{ones, ones_step}
 use Rattle.words.specs.Words.{bit}
-use Rattle.words.proofs.Bits.{bit_lt, bit_of_and, bit_of_xor, bit_half, bit_lowest, bit_none, same_bits}
+use Rattle.words.proofs.Bits.{bit_lt, bit_of_and, bit_of_xor, bit_half, bit_lowest, bit_none, no_bits, same_bits}
 use Rattle.mapping.specs.Ones.{outside}
 
 pub bit_of_or : (x y i : ℕ) → bit (bit_or x y) i ≡ max (bit x i) (bit y i)
@@ -44,9 +44,6 @@ and_not a c ha hc =
 pub no_ones : ones 0 ≡ 0
 unfolding ones
 no_ones = refl
-
-no_bits : (a : ℕ) → ((i : ℕ) → bit a i ≡ 0) → a ≡ 0
-no_bits a h = same_bits a 0 (λ i. h i ∙ sym (bit_none i))
 
 -- two words whose bits make up those of a third
 pub ones_split : (d a b : ℕ) → ((i : ℕ) → bit a i + bit b i ≡ bit d i) → ones a + ones b ≡ ones d

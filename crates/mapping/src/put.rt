@@ -13,7 +13,7 @@ use gates::mct::Mct;
 use tables::table::Table;
 use words::unit;
 
-// Puts a legal gate in at an end. That a gate is legal on the lines of a table is a fact of both, so that no type says it.
+// Puts a legal gate in at an end. Whether it is legal depends on the table too, so no type can say it.
 pub(crate) fn put(table: &mut Table, end: End, gate: Mct)
     requires { mct_legal table.old.lines gate ≡ true }
     ensures { Moved mct end gate (table_meaning table.old) (table_meaning table.new) }

@@ -13,7 +13,8 @@ use gates::end::End;
 use tables::table::Table;
 
 impl Work<'_, '_> {
-    // Maps every row but the last, each by the word with the smallest total.
+    // Maps every row but the last, each by the word with the smallest total. The search of a row is left by its label at the
+    // first total of 0.
     pub(crate) fn map_rows(&mut self)
         requires apart { Apart (2 ^ self.old.table.now.lines) (table_meaning self.old.table.now).map }
         requires room { table_plan.budget self.old.table.now.lines ≤ free self.old.book.now }

@@ -15,6 +15,7 @@ const GATE: Cnot = Cnot {
     target: 1,
 };
 
+// Over one place and over two are two examples, since each tells another fact.
 // Over one place: a gate is accepted, no place is free, and the same gate is declined.
 pub fn over_one_place() -> (Result<(), Refusal>, usize, Result<(), Refusal>)
     ensures { result ≡ (Ok tt, 0, Err (TooFewPlaces 1 0)) }

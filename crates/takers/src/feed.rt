@@ -25,8 +25,6 @@ pub fn feed<G: Gate, T: Taker<G>>(gates: &[G], taker: &mut T) -> Result<(), Refu
 pub fn accepts<G: Gate, T: Taker<G>>(gates: &[G], taker: &T) -> Result<(), Refusal>
     ensures { result ≡ accept_all G.Gate.kind (T.Taker.meaning taker.now) gates.now }
 {
-    if !circuit::all_legal(gates, taker.lines()) {
-        return Err(Refusal::IllegalGate);
-    }
+    circuit::check(gates, taker.lines())?;
     enough_places(gates.len(), taker.free())
 }

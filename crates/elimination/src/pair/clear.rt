@@ -29,6 +29,7 @@ fn falls_by_two(before: u32, after: u32) -> bool
     after + 2 <= before
 }
 
+// How many gates a stage adds is its own, so each asks for its room; and whether a line is one of the pair's depends on both.
 impl Found {
     // Nothing found yet.
     pub(super) fn new(pair: Pair) -> Found

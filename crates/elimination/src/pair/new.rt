@@ -1,5 +1,5 @@
-// A pair made from the rows of a matrix and of its inverse. Each function over rows asks for 64 at most: over the matrix itself, whose
-// type says so, the proofs of the loops did not close, since they read the rows of a call.
+// A pair made from the rows of a matrix and of its inverse. Each function takes the rows, at most 64, and not the matrix, whose
+// type says so: no invariant of a loop could name the rows that a call returns.
 ghost use Rattle.std.specs.Prelude.{◌≡◌, ℕ, ◌+◌, ◌^◌, ◌<◌, ◌≤◌, length, take, slice_index};
 ghost use Rattle.words.specs.Words.{has};
 ghost use Rattle.matrices.specs.Meanings.{rows_of};
@@ -13,7 +13,7 @@ use gates::refusal::Refusal;
 use matrices::matrix::Matrix;
 use pieces::piece::Piece;
 
-// The row words in front of zeros.
+// The row words in front of zeros. As in `matrices`: a public function for both would have to ask for 64 at most.
 fn padded(rows: &[u64]) -> [u64; 64]
     requires { length rows.now ≤ 64 }
     ensures { take (length rows.now) result ≡ rows.now }

@@ -19,8 +19,8 @@ impl Pair {
         self.cost
     }
 
-    // The layout whose words are the lines of an end, to read: one lent to be written could leave the pair unsound, so the methods
-    // that write name it in their arms.
+    // The layout whose words are the lines of an end, to read: one lent to be written could leave the pair unsound, so the
+    // methods that write name it in their arms.
     fn half(&self, end: End) -> &Half
         ensures { result.now ≡ half_at end self.now }
     {
@@ -60,7 +60,7 @@ impl Pair {
         }
     }
 
-    // The cost once an addition is made, on trial. Inlined into its callers' loops it takes half as long again.
+    // The cost once an addition is made, on trial. Not inlined: inlined into its callers' loops it takes half as long again.
     #[inline(never)]
     pub(crate) fn cost_after(&mut self, addition: Addition) -> u32
         requires { Within self.old.lines addition }

@@ -47,6 +47,8 @@ impl Matrix {
 }
 
 // A matrix on its way to identity, of which so many columns are done, and what the same row additions have made of identity.
+// `done` is a field and no counter of a loop, so that the type says which columns are solved; that one is left is asked by each
+// step.
 #[derive(Clone, Copy)]
 struct Solving {
     left: Matrix,

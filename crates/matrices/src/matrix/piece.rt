@@ -38,6 +38,7 @@ impl Piece<Cnot> for Matrix {
         self.first_clash()
     }
 
+    // The interface has a method for each end; what they share is the check.
     fn input(&mut self, gate: Cnot) -> Result<(), Refusal>
         ensures answer { result ≡ answer (unless_legal (cnot.legal self.old.lines gate) None) }
         ensures after { MatchResult result (λ _. Moved cnot Input gate (matrix_meaning self.old) (matrix_meaning self.new)) (λ _. self.new ≡ self.old) }
@@ -71,8 +72,8 @@ impl Matrix {
         image
     }
 
-    // The gate comes first: column `target` is added to column `control`. That a gate is legal on these lines is a fact of both, so that
-    // no type says it.
+    // The gate comes first: column `target` is added to column `control`. Whether a gate is legal on these lines depends on
+    // both, so no type can say it.
     fn put_input(&mut self, gate: Cnot)
         requires { cnot.legal self.old.lines gate ≡ true }
         ensures lines { self.new.lines ≡ self.old.lines }
