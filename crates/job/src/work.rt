@@ -50,11 +50,8 @@ pub(crate) fn check_book<G: Gate>(book: &Book<G>, n: u8) -> Result<(), Refusal>
     ensures legal { OnOk result (sound G.Gate.kind n (ends book.now) ≡ true) }
 {
     let (inputs, outputs) = book.as_slices();
-    if circuit::all_legal(inputs, n) && circuit::all_legal(outputs, n) {
-        Ok(())
-    } else {
-        Err(Refusal::IllegalGate)
-    }
+    circuit::check(inputs, n)?;
+    circuit::check(outputs, n)
 }
 
 // Takes back every gate of an end. Their acting twice undoes them, so what a word comes to in the whole circuit stays.
