@@ -99,7 +99,7 @@ bits_forth (suc n) w h =
     let whole : w % 2 + w / 2 * 2 ≡ w = omega arith in
     (λ j. below_word (bit_forth (w % 2) (omega arith) j) (bits_forth n (w / 2) half j)) ∙ ap Some whole
 
-length_row : (n w : ℕ) → length (row_text n w) ≡ n
+pub length_row : (n w : ℕ) → length (row_text n w) ≡ n
 length_row zero w = refl
 length_row (suc n) w = ap suc (length_row n (w / 2))
 

@@ -116,7 +116,7 @@ sheet_valid s hs p =
     }
 
 -- the text of lines is cut where the lines are
-lines_append : (as' bs : List (List ℕ)) → lines_text (as' ++ bs) ≡ lines_text as' ++ lines_text bs
+pub lines_append : (as' bs : List (List ℕ)) → lines_text (as' ++ bs) ≡ lines_text as' ++ lines_text bs
 lines_append [] bs = refl
 lines_append (a ∷ as') bs = ap (λ z. (a ++ 10 ∷ []) ++ z) (lines_append as' bs) ∙ sym (append_assoc (a ++ 10 ∷ []) (lines_text as') (lines_text bs))
 

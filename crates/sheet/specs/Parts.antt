@@ -26,7 +26,7 @@ abbrev pub sheet_parts : List ℕ → Result (List Item) Fault
 sheet_parts s = and_then (sheet_of s) (λ hs. Ok (parts hs))
 
 abbrev pub sheet_items : Sheet → List Item
-sheet_items t = t.items.items
+sheet_items t = take t.count t.items
 
 abbrev pub items_of : Result Sheet Fault → Result (List Item) Fault
 items_of r = and_then r (λ t. Ok (sheet_items t))

@@ -86,8 +86,8 @@ fn is_told(body: Body<'_>) -> bool
     kind.fits(u32::from(lines), count) && body.first.checked_add(count as u64).is_some()
 }
 
-// Reads the lines of a body, and lays what they hold into the places from the start. What it answers is the promise of the checker and
-// of the reader too, so that each says it.
+// Reads the lines of a body, and lays what they hold into the places from the start. `check_body` and
+// `read_body` promise the same answer, so each states it.
 fn read_lines(body: Body<'_>, entries: &mut [Entry]) -> Result<usize, Fault>
     ensures answer { result ≡ how_many (held_by body.entry) }
     ensures entries { Fills result (held_by body.entry) entries.old entries.new }
@@ -119,8 +119,9 @@ pub(crate) fn check_body(body: Body<'_>) -> Result<usize, Fault>
     read_lines(body, &mut [])
 }
 
-// Reads a body, lays its entries into the places from the start, and answers how many there are. Those past the last place are left out, and a fault changes no place.
-// A body that no contents line can tell of, or whose line numbers reach 2^64, is declined as wrong contents at its first line.
+// Reads a body, lays its entries into the places from the start, and answers how many there are. Those past the last place are
+// left out, and a fault changes no place. A body that no contents line can tell of, or whose line numbers reach 2^64, is
+// declined as wrong contents at its first line.
 pub fn read_body(body: Body<'_>, entries: &mut [Entry]) -> Result<usize, Fault>
     ensures answer { result ≡ how_many (held_by body.entry) }
     ensures entries { entries.new ≡ laid_by (held_by body.entry) entries.old }

@@ -1,4 +1,4 @@
-// What a line of a body holds: a row, an image or a gate. Each reader takes the line and n: a struct of the two would only rename them.
+// What a line of a body holds: a row, an image or a gate. A reader takes the line and n, which a struct would only rename.
 ghost use Rattle.std.specs.Prelude.{◌≡◌, ℕ, ◌+◌, ◌^◌, ◌<◌, ◌≤◌, nat_le, ok_or};
 ghost use Rattle.gates.specs.declared.refusal.Refusal.TheVariants.{IllegalGate};
 ghost use Rattle.gates.specs.Mcts.{mct as the_mcts};
@@ -70,11 +70,8 @@ fn to_byte(x: u32) -> Result<u8, Refusal>
 fn if_legal<G: Gate>(gate: G, n: u8) -> Result<G, Refusal>
     ensures { result ≡ legal G.Gate.kind n gate }
 {
-    if gate.is_legal(n) {
-        Ok(gate)
-    } else {
-        Err(Refusal::IllegalGate)
-    }
+    gate.check(n)?;
+    Ok(gate)
 }
 
 // The gate of a line with its control and its target.
@@ -93,8 +90,8 @@ fn with_line(set: Option<u8>, line: u32) -> Option<u8>
     Some(set? | 1u8.checked_shl(line)?)
 }
 
-// The controls that a gate line has so far: their set, and the least that may follow. There is no set where a control is 8 or more;
-// a fault of form may still come, and is told first.
+// The controls that a gate line has so far: their set, and the least that may follow. There is no set where a control is 8 or
+// more; a fault of form may still come, and is told first.
 #[derive(Clone, Copy)]
 struct Controls {
     set: Option<u8>,

@@ -30,7 +30,7 @@ impl Fault {
 }
 
 impl Layer {
-    // The word by which a fault tells its layer. It is a text and no Display, whose contract cannot say what is written into a buffer.
+    // The word by which a fault tells its layer: a text and no Display, since of a Display nothing says that it answers Ok.
     pub fn name(self) -> &'static str
         ensures { result.now ≡ layer_name self }
     {

@@ -5,7 +5,8 @@ ghost use Rattle.sheet.specs.Parts.{lies_in, CutFrom};
 use crate::body::Body;
 use crate::contents::Contents;
 
-// What the contents tell, the number of the first body line, and where the body stands in the sheet: two bounds, since a range is not copied.
+// What the contents tell, the number of the first body line, and where the body stands in the sheet: two bounds, since a range
+// is not copied.
 #[derive(Clone, Copy, Default)]
 pub struct Item {
     pub contents: Contents,

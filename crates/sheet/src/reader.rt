@@ -91,7 +91,8 @@ fn next_item(sheet: &[u8], contents: Contents, first: u64, start: usize) -> Resu
     Ok(item)
 }
 
-// The items whose bodies begin at the byte `from` of the sheet, after line 1 and the contents lines; nothing may follow the last body.
+// The items whose bodies begin at the byte `from` of the sheet, after line 1 and the contents lines; nothing may follow the
+// last body.
 fn read_bodies(sheet: &[u8], contents: &[Contents], from: usize) -> Result<Sheet, Fault>
     requires { (length contents.now ≤ 16) × ((AllByRecursion Sound contents.now) × (from ≤ length sheet.now)) }
     ensures { items_of result ≡ and_then (bodies contents.now (length contents.now + 2) (pieces 10 (drop from sheet.now))) (λ hs. Ok (parts_from (length contents.now + 2) from hs)) }
@@ -108,7 +109,7 @@ fn read_bodies(sheet: &[u8], contents: &[Contents], from: usize) -> Result<Sheet
     if start < sheet.len() {
         return Err(Fault::at(Refusal::WrongForm, first, Layer::Body));
     }
-    Ok(Sheet { items })
+    Ok(Sheet::of(&items))
 }
 
 // Whether a sheet has 1 to 16,384 bytes.

@@ -8,7 +8,8 @@ use crate::fault::{Fault, Layer};
 use crate::text::split_once;
 use gates::refusal::Refusal;
 
-// The lines that are left, and the number of the first.
+// The lines that are left, and the number of the first. That the number fits is asked by each that reads on, and no ghost field:
+// a body may begin at any line number.
 #[derive(Clone, Copy)]
 pub(crate) struct Rest<'a> {
     pub(crate) lines: &'a [u8],
