@@ -3,6 +3,7 @@ use Rattle.std.proofs.Common.{◌≡◌, ℕ, suc, ◌+◌, ◌-◌, ◌*◌, �
 use Rattle.std.proofs.lemmas.List.{append-nil, set_past, take_all, take-append-le, take_more_set, length_push, map_push}
 use Rattle.std.proofs.lemmas.Bool.{cases_lt}
 use Rattle.sheet.specs.Render.{lines_text}
+use Rattle.sheet.proofs.ValidBack.{lines_append}
 use Rattle.answers.specs.declared.draft.Draft.{Draft}
 use Rattle.answers.specs.declared.head.AnswerKind.{AnswerKind}
 use Rattle.answers.specs.Answers.{Answer, body, head, bodies}
@@ -28,10 +29,6 @@ laid_kept room old at text (b ∷ bs) lo lt e =
     ap (λ k. take k (laid (set old at b) (at + 1) bs)) one
     ∙ laid_kept room (set old at b) (at + 1) (text ++ b ∷ []) bs (length-set old at b ∙ lo) (length_push text b ∙ ap (λ k. k + 1) lt) (kept_one room old at b text lo lt e)
     ∙ ap (take room) (append_assoc text (b ∷ []) bs)
-
-pub lines_append : (ps qs : List (List ℕ)) → lines_text (ps ++ qs) ≡ lines_text ps ++ lines_text qs
-lines_append [] qs = refl
-lines_append (p ∷ ps) qs = ap (λ z. (p ++ 10 ∷ []) ++ z) (lines_append ps qs) ∙ sym (append_assoc (p ++ 10 ∷ []) (lines_text ps) (lines_text qs))
 
 bodies_append : (xs ys : List Answer) → bodies (xs ++ ys) ≡ bodies xs ++ bodies ys
 bodies_append [] ys = refl

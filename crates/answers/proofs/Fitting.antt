@@ -17,7 +17,8 @@ use Rattle.answers.specs.Answers.{Answer, body, head, contents_line, contents_li
 use Rattle.answers.specs.Drafts.{Drafts}
 use Rattle.answers.specs.Laid.{laid, Puts}
 use Rattle.answers.specs.Sums.{ends_past, unfit_from, unfit_heads}
-use Rattle.answers.proofs.Drafting.{lines_append, bodies_push}
+use Rattle.sheet.proofs.ValidBack.{lines_append}
+use Rattle.answers.proofs.Drafting.{bodies_push}
 use Rattle.answers.proofs.Headings.{counts, contents_push}
 use Rattle.answers.proofs.Laying.{laid_fits}
 

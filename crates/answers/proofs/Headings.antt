@@ -112,6 +112,3 @@ module _ (room n first at start : ℕ) (hs : List Head) (i : ℕ) (d : Head) (l 
       → unfit_from room n first at start (drop i hs) ≡ unfit_from room (n + 1) (first + (get_or hs i d).count) end (start + (get_or hs i d).size) (drop (i + 1) hs)
   unfolding step
   unfit_later h e = here ∙ (λ j. step (le-ltb room end h j || sym e j))
-
-pub unfit_none : (room n first at start : ℕ) (hs : List Head) (i : ℕ) → length hs ≤ i → unfit_from room n first at start (drop i hs) ≡ None
-unfit_none room n first at start hs i l = ap (unfit_from room n first at start) (drop_all i hs l)

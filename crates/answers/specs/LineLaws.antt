@@ -7,6 +7,7 @@ use Rattle.std.proofs.lemmas.Fmt.{decimal_digit}
 use Rattle.gates.specs.declared.cnot.Cnot.{Cnot}
 use Rattle.gates.specs.declared.mct.Mct.{Mct}
 use Rattle.sheet.specs.Render.{numbers_text, members, row_text, cnot_text, mct_text}
+use Rattle.sheet.proofs.Forth.{length_row}
 
 either : (P : List ℕ → Type 0) (b : Bool) (xs ys : List ℕ) → P xs → P ys → P (cond b xs ys)
 either P true xs ys p q = p
@@ -26,12 +27,8 @@ decimal_long n = omega (arith, digits_long 64 10 false n [])
 pub decimal_short : (n : ℕ) → length (decimal n) < 256
 decimal_short n = omega (arith, decimal_long n)
 
-pub row_long : (n w : ℕ) → length (row_text n w) ≡ n
-row_long zero w = refl
-row_long (suc n) w = ap suc (row_long n (w / 2))
-
 pub row_short : (n w : ℕ) → n < 256 → length (row_text n w) < 256
-row_short n w l = omega (arith, row_long n w)
+row_short n w l = omega (arith, length_row n w)
 
 -- Numbers, with a space after each.
 abbrev pub spaced : List ℕ → List ℕ

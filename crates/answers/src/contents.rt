@@ -70,7 +70,7 @@ pub(crate) fn first_unfit(heads: &ArrayVec<Head, 16>, room: usize) -> Option<u64
     ensures { result ≡ unfit_heads room heads.now.items }
 {
     if heads.is_empty() {
-        return if room < 2 { Some(1) } else { None };
+        return (room < 2).then_some(1);
     }
     let mut pen = Pen::nowhere();
     pen.heading(heads);

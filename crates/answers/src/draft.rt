@@ -8,9 +8,9 @@ use arrayvec::ArrayVec;
 mod add;
 mod write;
 
-// A draft takes up to 16 answers, each of fewer than 2^32 lines. One that it declines leaves it as it was.
-// The texts of the bodies stand one after the other in `bodies`, and the heads tell of the answers. `size` is the length of the texts,
-// and stands beside the array since it counts on past its end, where bytes are left out.
+// A draft takes up to 16 answers, each of fewer than 2^32 lines. One that it declines leaves it as it was. The texts of the
+// bodies stand one after the other in `bodies`, and the heads tell of the answers. `size` is the length of the texts, and
+// stands beside the array since it counts on past its end, where bytes are left out.
 #[derive(Drop)]
 pub struct Draft {
     bodies: [u8; 65536],

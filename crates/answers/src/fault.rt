@@ -21,7 +21,8 @@ impl Pen<'_> {
     }
 }
 
-// Lays the line of a fault into a buffer from its start, and answers the line's length. Bytes past the buffer's end are left out.
+// Lays the line of a fault into a buffer from its start, and answers the line's length. Bytes past the buffer's end are left
+// out.
 pub fn write_fault(fault: Fault, out: &mut [u8]) -> usize
     ensures { Puts out.old 0 (fault_text fault) result out.new }
 {

@@ -5,8 +5,8 @@ ghost use Rattle.answers.specs.Pens.{Writes};
 
 use itoa::{Buffer, Integer};
 
-// The buffer, and where the next byte goes. A pen never fails. No `write!` goes to it: std tells what a `Display` writes only where
-// that answers Ok, and tells of none that it does.
+// The buffer, and where the next byte goes. A pen never fails. No `write!` goes to it: std never says that a `Display` answers
+// Ok.
 #[derive(Drop)]
 pub(crate) struct Pen<'a> {
     pub(crate) out: &'a mut [u8],
@@ -25,7 +25,7 @@ impl Pen<'_> {
         }
     }
 
-    // One byte.
+    // One byte. By index, since a contract cannot follow a write through `get_mut`.
     #[tactic(auto, unfolding(crate::specs::Pens::wrote))]
     pub(crate) fn byte(&mut self, b: u8)
         ensures { Writes self.old (b ∷ []) self.new }

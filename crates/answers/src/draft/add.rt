@@ -49,8 +49,8 @@ impl Draft {
         Ok(())
     }
 
-    // The rows of a matrix on n lines. Each is written by its lowest n bits. One call for each kind of answer: the kind and the type of the
-    // lines belong together.
+    // The rows of a matrix on n lines. Each is written by its lowest n bits. A call for each kind: the type of the
+    // lines does not say what they are.
     pub fn rows(&mut self, n: u8, rows: &[u64]) -> Result<(), Refusal>
         ensures told { result ≡ taken self.old (length rows.now) }
         ensures after { Adds result (Answer.rows n rows.now) self.old self.new }

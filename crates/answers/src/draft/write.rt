@@ -28,8 +28,8 @@ impl Draft {
         pen.at
     }
 
-    // Writes the answer sheet into a buffer, of which it uses at most the first 65,536 bytes, and answers its length. Where an answer
-    // does not fit, the bytes that it might have used are zero.
+    // Writes the answer sheet into a buffer, of which it uses at most the first 65,536 bytes, and answers its length. Where an
+    // answer does not fit, the bytes that it might have used are zero.
     pub fn write(&self, out: &mut [u8]) -> Result<usize, Fault>
         ensures { (xs : List Answer) → Drafts self.now xs → Written xs out.old result out.new }
     {
