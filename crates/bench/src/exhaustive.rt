@@ -1,7 +1,7 @@
 // The runs of all tables of three lines whose images differ.
+use crate::MCT;
 use crate::random::arrange;
 use books::Book;
-use gates::mct::Mct;
 use mapping::rule::RowMapping;
 use pieces::piece::Piece;
 use pieces::rule::Rule;
@@ -20,32 +20,27 @@ struct Account {
 
 // Runs every table, and prints how many came to identity, the average number of gates, and the largest.
 pub(crate) fn run_all_tables(rt: &impl Print) -> io::Result<()> {
-    let mut account = Account::default();
-    let mut images = [0; 8];
-    let mut places = [Mct {
-        controls: 0,
-        target: 0,
-    }; 21];
-    tally_tables(&mut images, &mut places, &mut account);
-    let at_identity = account.at_identity;
-    let average = account
-        .gates
-        .saturating_mul(10_000)
-        .saturating_add(TABLES / 2)
-        / TABLES;
+    let Account {
+        at_identity,
+        gates,
+        most,
+    } = tally_tables();
+    let average = gates.saturating_mul(10_000).saturating_add(TABLES / 2) / TABLES;
     let whole = average / 10_000;
     let part = average % 10_000;
-    let most = account.most;
     println!(rt;
         "tables of 3 lines: all {TABLES} run, {at_identity} to identity, {whole}.{part:04} gates on average, at most {most}"
     )
 }
 
-fn tally_tables(images: &mut [u64], places: &mut [Mct], account: &mut Account) {
+fn tally_tables() -> Account {
+    let mut account = Account::default();
+    let mut images = [0; 8];
+    let mut places = [MCT; 21];
     for index in 0..TABLES {
-        arrange_by(index, images);
-        if let Ok(mut table) = Table::new(3, images) {
-            let mut book = Book::new(places);
+        arrange_by(index, &mut images);
+        if let Ok(mut table) = Table::new(3, &images) {
+            let mut book = Book::new(&mut places);
             if RowMapping.run(&mut table, &mut book).is_ok() && table.is_identity() {
                 account.at_identity = account.at_identity.saturating_add(1);
                 account.gates = account.gates.saturating_add(book.len());
@@ -53,6 +48,7 @@ fn tally_tables(images: &mut [u64], places: &mut [Mct], account: &mut Account) {
             }
         }
     }
+    account
 }
 
 // One order of the words for each index: the digits of the index, each to a larger base, tell their places.

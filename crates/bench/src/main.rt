@@ -1,5 +1,5 @@
-// How many gates runs find: on random matrices and tables, with the time they take if an argument is given, and on all tables of
-// three lines; and how many places the run of a matrix needs.
+// How many gates runs find: on random matrices and tables, with the time they take if an argument is given, and on all tables
+// of three lines; and how many places the run of a matrix needs.
 #![tactic(auto)]
 
 mod exhaustive;
@@ -97,7 +97,7 @@ fn run<G: Gate, P: Piece<G>, R: Rule<G, P>>(
         tally.gates = tally.gates.saturating_add(book.len() as u64);
         tally.micros = tally
             .micros
-            .saturating_add(took.as_micros().min(u64::MAX as u128) as u64);
+            .saturating_add(u64::try_from(took.as_micros()).unwrap_or(u64::MAX));
     }
     Ok(())
 }

@@ -1,4 +1,5 @@
 // How many places the run of a matrix needs, whatever the matrix.
+use crate::CNOT;
 use books::Book;
 use elimination::Elimination;
 use gates::cnot::Cnot;
@@ -7,14 +8,9 @@ use matrices::matrix::Matrix;
 use pieces::rule::Rule;
 use std::io;
 
-const GATE: Cnot = Cnot {
-    control: 0,
-    target: 0,
-};
-
 pub(crate) fn tell_places(rt: &impl Print) -> io::Result<()> {
-    tell_run(rt, &mut [GATE; 8127])?;
-    tell_run(rt, &mut [GATE; 8126])
+    tell_run(rt, &mut [CNOT; 8127])?;
+    tell_run(rt, &mut [CNOT; 8126])
 }
 
 // Runs a matrix of 64 lines over these places.

@@ -26,6 +26,9 @@ impl Random {
 
     // A matrix whose images differ, each such matrix as likely as another. About every third one tried is.
     pub(crate) fn matrix(&mut self, lines: u8) -> Option<Matrix> {
+        if lines > 64 {
+            return None;
+        }
         let mut rows = [0; 64];
         for _ in 0..1000 {
             for row in rows.iter_mut() {
@@ -34,11 +37,9 @@ impl Random {
                     *row %= 1 << lines;
                 }
             }
-            if lines <= 64 {
-                let matrix = Matrix::new(lines, &rows[0..lines as usize]).ok()?;
-                if matrix.clash().is_none() {
-                    return Some(matrix);
-                }
+            let matrix = Matrix::new(lines, &rows[..lines as usize]).ok()?;
+            if matrix.clash().is_none() {
+                return Some(matrix);
             }
         }
         None
@@ -51,7 +52,7 @@ impl Random {
         }
         let mut images = [0; 256];
         let count = 1 << lines;
-        self.shuffled(lines, &mut images[0..count])
+        self.shuffled(lines, &mut images[..count])
     }
 
     // The table of the words in random order, written into these places.

@@ -43,7 +43,7 @@ pub(crate) fn tell_matrix(rt: &impl Print, n: u8, gates: &[Cnot]) -> Result<(), 
 pub(crate) fn tell_table(rt: &impl Print, n: u8, gates: &[Mct]) -> Result<(), Stop> {
     print_gates(rt, "given", gates)?;
     let table = folded(gates, Table::identity(n)?)?;
-    print_images(rt, &table)?;
+    print_table(rt, &table)?;
     tell_agreement(rt, gates, &table)?;
     Ok(())
 }
@@ -81,7 +81,7 @@ fn print_rows(rt: &impl Print, matrix: &Matrix) -> io::Result<()> {
     Ok(())
 }
 
-fn print_images(rt: &impl Print, table: &Table) -> io::Result<()> {
+fn print_table(rt: &impl Print, table: &Table) -> io::Result<()> {
     print!(rt; "  table:")?;
     for image in table.images() {
         print!(rt; " {image}")?;

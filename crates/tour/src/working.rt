@@ -39,7 +39,7 @@ pub(crate) fn work_by_hand(
     Ok(())
 }
 
-// The whole job. Where the delivery is declined, it is given up.
+// The whole job. Where the delivery is declined, it is given up first: so a match, and no `map_err`.
 fn conducted<G: Gate, P: Piece<G>, T: Taker<G>>(
     piece: &mut P,
     steps: &mut [Step<Edit<G>>],
@@ -60,9 +60,8 @@ fn abandon<G: Gate, P: Piece<G>>(ticket: Ticket, piece: &mut P, book: &mut Book<
     requires lines { ticket.lines ≡ (P.Piece.meaning piece.old).lines }
     requires legal { sound G.Gate.kind ticket.lines (ends book.old) ≡ true }
 {
-    match ticket.give_up(piece, book) {
-        Ok(()) => (),
-        Err((_ticket, _why)) => unreachable(),
+    if let Err((_ticket, _why)) = ticket.give_up(piece, book) {
+        unreachable!()
     }
 }
 
