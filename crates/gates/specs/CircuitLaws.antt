@@ -24,6 +24,10 @@ module _ {G : Type 0} (K : Kind G) (n : ℕ) where
   pub take_next : (gs : List G) (i : ℕ) (g : G) → i < length gs → g ≡ slice_index_or gs i g → take (i + 1) gs ≡ take i gs ++ g ∷ []
   take_next gs i g h is = take_more gs i g h ∙ ap (λ x. take i gs ++ x ∷ []) (sym is)
 
+  pub through_more : (gs : List G) (i : ℕ) (g : G) (x y z : ℕ) → i < length gs → g ≡ slice_index_or gs i g → y ≡ through K n (take i gs) x → z ≡ K.act n g y → z ≡ through K n (take (i + 1) gs) x
+  through_more gs i g x y z h is before next =
+      next ∙ ap (K.act n g) before ∙ sym (ap (λ l. through K n l x) (take_next gs i g h is) ∙ through_append (take i gs) (g ∷ []) x)
+
   pub legal_more : (gs : List G) (i : ℕ) (g : G) (sofar here : Bool) → i < length gs → g ≡ slice_index_or gs i g → sofar ≡ all_legal K n (take i gs) → here ≡ K.legal n g → (sofar && here) ≡ all_legal K n (take (i + 1) gs)
   legal_more gs i g sofar here h is before next =
       ap₂ ◌&&◌ before (next ∙ ap (K.legal n) is) ∙ sym (list_all_more (K.legal n) gs i g h)
