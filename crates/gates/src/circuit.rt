@@ -12,7 +12,12 @@ use crate::refusal::Refusal;
 pub fn all_legal<G: Gate>(gates: &[G], n: u8) -> bool
     ensures { result ≡ all_legal G.Gate.kind n gates.now }
 {
-    gates.iter().all(|gate| gate.is_legal(n))
+    // Every gate is looked at, since a loop without an early exit runs faster.
+    let mut legal = true;
+    for gate in gates {
+        legal &= gate.is_legal(n);
+    }
+    legal
 }
 
 // Declines a circuit with an illegal gate.
