@@ -1,6 +1,8 @@
 -- The highest bit of a word, and words without it.
-use Rattle.std.proofs.Common.{◌≡◌, ℕ, suc, ◌+◌, ◌*◌, ◌/◌, ◌%◌, ◌^◌, ◌<◌, ◌≤◌, sym, ap, ◌∙◌, ap₂, ⊎_elim, mod-lt, arith, pow_pos, shr-shr}
+use Rattle.std.proofs.Common.{◌≡◌, ℕ, suc, ◌+◌, ◌-◌, ◌*◌, ◌/◌, ◌%◌, ◌^◌, ◌<◌, ◌≤◌, sym, ap, ◌∙◌, ap₂, ⊎_elim, mod-lt, pow-suc, arith, pow_pos, shr-shr}
+use native.Mathlib.Nat.{div-eq_of_lt-le}
 use lib.Bits.{bit_xor, xor_lt}
+use lib.Count.{count_leading_zeros, leading_top}
 use lib.Pow.{split}
 use Rattle.std.proofs.lemmas.Bool.{cases_lt}
 use Rattle.words.specs.Words.{bit}
@@ -30,3 +32,12 @@ without_top t x y lx ly ex ey =
 -- words whose sum is 0 are equal
 pub equal_by_sum : (x y : ℕ) → bit_xor x y ≡ 0 → x ≡ y
 equal_by_sum x y e = sym (flip_twice x y) ∙ ap (λ (z : ℕ). bit_xor z y) e
+
+-- the leading zeros of a word tell its highest bit
+pub top_bit : (x : ℕ) → 0 < x → x < 2 ^ 64 → bit x (63 - count_leading_zeros 64 x) ≡ 1
+top_bit x p l =
+    let t = leading_top 64 x p l in
+    let j = t.0 in
+    let place : 63 - count_leading_zeros 64 x ≡ j = omega (arith, t.1) in
+    let one : x / 2 ^ j ≡ 1 = div-eq_of_lt-le (2 ^ j) (omega (arith, t.2)) (omega (arith, t.3, pow-suc 2 j)) in
+    ap (bit x) place ∙ ap (λ (z : ℕ). z % 2) one
