@@ -4,12 +4,12 @@ use lib.Seq.{take-set-lt}
 use Rattle.std.proofs.lemmas.List.{length-take}
 use Rattle.gates.specs.declared.end.End.{End}
 use Rattle.gates.specs.declared.end.End.TheVariants.{Input, Output}
-use Rattle.books.specs.Ends.{empty, found, put, strike, last}
+use Rattle.books.specs.Ends.{empty, found, circuit, put, strike, last}
 use Rattle.books.specs.Books.{counted, laid, ends, places, free}
 use Rattle.books.specs.Places.{tally, counts, more, fewer, Room, place, written, Pushed}
 use Rattle.books.specs.declared.Book.{Book}
 use Rattle.books.proofs.EndLaws.{last_within}
-use Rattle.books.proofs.LaidLaws.{laid_none, laid_put_in, laid_put_out, ins_length, outs_length, held_laid, strike_in, strike_out}
+use Rattle.books.proofs.LaidLaws.{laid_none, laid_put_in, laid_put_out, ins_length, outs_length, held_laid, circuit_length, strike_in, strike_out}
 
 module _ {G : Type 0} where
   counted_length : (xs : List G) → length (counted xs) ≡ min 16384 (length xs)
@@ -45,6 +45,9 @@ module _ {G : Type 0} where
     pub free_is : free b ≡ places b - (b.inputs + b.outputs)
     free_is = ap (λ n. places b - n) (held_laid (counted b.places.now) b.inputs b.outputs fits_counted)
 
+    pub circuit_fits : length (circuit (ends b)) ≤ 16384
+    circuit_fits = omega (arith, circuit_length (counted b.places.now) b.inputs b.outputs fits_counted, counted_length b.places.now, fits_counted)
+
     pub room : 1 ≤ free b → Room b
     room h = omega (arith, free_is)
 
@@ -72,9 +75,13 @@ module _ {G : Type 0} where
 
     -- ---- one gate fewer at an end
 
-    strike_laid : (e : End) (g : G) → last (found e (ends b)) ≡ Some g → laid (counted b.places.now) (fewer e (counts b)).0 (fewer e (counts b)).1 ≡ strike e (ends b)
-    strike_laid Input g is = strike_in (counted b.places.now) b.inputs b.outputs fits_counted g (tally_last Input g is)
-    strike_laid Output g is = strike_out (counted b.places.now) b.inputs b.outputs fits_counted g (tally_last Output g is)
+    strike_laid : (e : End) (d : G) → 0 < tally e b → laid (counted b.places.now) (fewer e (counts b)).0 (fewer e (counts b)).1 ≡ strike e (ends b)
+    strike_laid Input d h = strike_in (counted b.places.now) b.inputs b.outputs fits_counted d h
+    strike_laid Output d h = strike_out (counted b.places.now) b.inputs b.outputs fits_counted d h
 
-    pub struck : (e : End) (g : G) (b' : Book G) → last (found e (ends b)) ≡ Some g → b'.places ≡ b.places → counts b' ≡ fewer e (counts b) → ends b' ≡ strike e (ends b)
-    struck e g b' is same shrank = ends_at b' b.places.now (fewer e (counts b)) (ap (λ r. r.now) same) shrank ∙ strike_laid e g is
+    pub struck : (e : End) (d : G) (b' : Book G) → 0 < tally e b → b'.places ≡ b.places → counts b' ≡ fewer e (counts b) → ends b' ≡ strike e (ends b)
+    struck e d b' h same shrank = ends_at b' b.places.now (fewer e (counts b)) (ap (λ r. r.now) same) shrank ∙ strike_laid e d h
+
+    -- the same where the last gate is known
+    pub struck_last : (e : End) (g : G) (b' : Book G) → last (found e (ends b)) ≡ Some g → b'.places ≡ b.places → counts b' ≡ fewer e (counts b) → ends b' ≡ strike e (ends b)
+    struck_last e g b' is same shrank = struck e g b' (tally_last e g is) same shrank

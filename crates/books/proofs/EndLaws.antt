@@ -11,6 +11,11 @@ module _ {G : Type 0} where
   pub ends_same : (a b : Ends G) → a.ins ≡ b.ins → a.outs ≡ b.outs → a ≡ b
   ends_same a b = ap₂ (λ is os. record { ins = is; outs = os })
 
+  pub last_push : (xs : List G) (x : G) → last (xs ++ x ∷ []) ≡ Some x
+  last_push [] x = refl
+  last_push (y ∷ []) x = refl
+  last_push (y ∷ (z ∷ zs)) x = last_push (z ∷ zs) x
+
   pub front_push : (xs : List G) (x : G) → front (xs ++ x ∷ []) ≡ xs
   front_push [] x = refl
   front_push (y ∷ []) x = refl

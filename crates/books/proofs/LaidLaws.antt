@@ -1,11 +1,13 @@
 -- Gates laid from both sides of a list of places.
-use Rattle.std.proofs.Common.{◌≡◌, ℕ, ◌+◌, ◌-◌, ◌<◌, ◌≤◌, List, [], ◌∷◌, ◌++◌, reverse, length, get_or, take, drop, set, sym, refl, ap, ◌∙◌, arith}
+use Rattle.std.proofs.Common.{◌≡◌, ℕ, ◌+◌, ◌-◌, ◌<◌, ◌≤◌, List, [], ◌∷◌, ◌++◌, reverse, length, get_or, take, drop, set, Some, None, sym, refl, ap, ◌∙◌, arith}
 use mathlib.Core.List.{reverse-cons}
-use Rattle.std.proofs.lemmas.List.{length-take-le, length-drop, length-set, length-reverse, reverse-reverse, take-set-le, drop-set-lt, take_more, take_more_set, drop_more, drop-set, take_all, drop_all}
+use Rattle.std.specs.List.{slice_get}
+use Rattle.std.proofs.lemmas.List.{length-take-le, length-drop, length-set, length-append, length-reverse, reverse-reverse, take-set-le, drop-set-lt, take_more, take_more_set, drop_more, drop-set, take_all, drop_all, get_or-take, get_or-drop, get_or_append_left, get_or-append_right}
+use Rattle.std.proofs.lemmas.Option.{slice_get-get_or, slice_get_past}
 use Rattle.gates.specs.declared.end.End.TheVariants.{Input, Output}
-use Rattle.books.specs.Ends.{empty, held, put, strike, front}
+use Rattle.books.specs.Ends.{empty, held, circuit, put, strike, last, front}
 use Rattle.books.specs.Books.{laid}
-use Rattle.books.proofs.EndLaws.{ends_same, front_push}
+use Rattle.books.proofs.EndLaws.{ends_same, last_push, front_push}
 
 module _ {G : Type 0} (xs : List G) where
   pub laid_none : laid xs 0 0 ≡ empty
@@ -52,7 +54,10 @@ module _ {G : Type 0} (xs : List G) where
       pub held_laid : held (laid xs i o) ≡ i + o
       held_laid = omega (arith, ins_length, outs_length)
 
-      -- ---- an end without the gate found last
+      pub circuit_length : length (circuit (laid xs i o)) ≡ i + o
+      circuit_length = length-append (take i xs) (reverse (laid xs i o).outs) ∙ omega (arith, ins_length, outs_length, length-reverse (laid xs i o).outs)
+
+      -- ---- the gate found last at an end, and the end without it
 
       ins_last : (d : G) → 0 < i → take i xs ≡ take (i - 1) xs ++ get_or xs (i - 1) d ∷ []
       ins_last d z =
@@ -67,8 +72,37 @@ module _ {G : Type 0} (xs : List G) where
           ap reverse (drop_more xs (length xs - o) d p) ∙ reverse-cons (get_or xs (length xs - o) d) (drop (length xs - o + 1) xs)
           ∙ ap (λ n. reverse (drop n xs) ++ get_or xs (length xs - o) d ∷ []) q
 
+      pub last_in : (d : G) → 0 < i → last (laid xs i o).ins ≡ Some (get_or xs (i - 1) d)
+      last_in d z = ap last (ins_last d z) ∙ last_push (take (i - 1) xs) (get_or xs (i - 1) d)
+
+      pub last_out : (d : G) → 0 < o → last (laid xs i o).outs ≡ Some (get_or xs (length xs - o) d)
+      last_out d z = ap last (outs_last d z) ∙ last_push (reverse (drop (length xs - (o - 1)) xs)) (get_or xs (length xs - o) d)
+
       pub strike_in : (d : G) → 0 < i → laid xs (i - 1) o ≡ strike Input (laid xs i o)
       strike_in d z = ends_same _ _ (sym (ap front (ins_last d z) ∙ front_push (take (i - 1) xs) (get_or xs (i - 1) d))) refl
 
       pub strike_out : (d : G) → 0 < o → laid xs i (o - 1) ≡ strike Output (laid xs i o)
       strike_out d z = ends_same _ _ refl (sym (ap front (outs_last d z) ∙ front_push (reverse (drop (length xs - (o - 1)) xs)) (get_or xs (length xs - o) d)))
+
+      -- ---- the gate at a position in circuit order
+
+      circuit_laid : circuit (laid xs i o) ≡ take i xs ++ drop (length xs - o) xs
+      circuit_laid = ap (λ l. take i xs ++ l) (reverse-reverse (drop (length xs - o) xs))
+
+      pub nth_in : (k : ℕ) (d : G) → k < i → slice_get (circuit (laid xs i o)) k ≡ Some (get_or xs k d)
+      nth_in k d p =
+          let q : k < length (take i xs) = omega (arith, ins_length) in
+          let r : k < length (circuit (laid xs i o)) = omega (arith, circuit_length) in
+          slice_get-get_or (circuit (laid xs i o)) k d r
+          ∙ ap Some (get_or_append_left (take i xs) (reverse (laid xs i o).outs) d k q ∙ get_or-take i xs k d p)
+
+      pub nth_out : (k : ℕ) (d : G) → i ≤ k → k - i < o → slice_get (circuit (laid xs i o)) k ≡ Some (get_or xs (length xs - o + (k - i)) d)
+      nth_out k d p q =
+          let r : k < length (circuit (laid xs i o)) = omega (arith, circuit_length) in
+          slice_get-get_or (circuit (laid xs i o)) k d r
+          ∙ ap Some (ap (λ l. get_or l k d) circuit_laid
+          ∙ get_or-append_right (take i xs) (drop (length xs - o) xs) i k d ins_length p
+          ∙ get_or-drop (length xs - o) xs (k - i) d)
+
+      pub nth_none : (k : ℕ) → i + o ≤ k → slice_get (circuit (laid xs i o)) k ≡ None
+      nth_none k p = slice_get_past (circuit (laid xs i o)) k (omega (arith, circuit_length))

@@ -7,8 +7,8 @@ use Rattle.gates.specs.declared.end.End.{End}
 use Rattle.gates.specs.declared.end.End.TheVariants.{Input, Output}
 use Rattle.gates.specs.Gates.{Kind}
 use Rattle.gates.specs.Circuits.{all_legal}
-use Rattle.gates.specs.CircuitLaws.{legal_push}
-use Rattle.books.specs.Ends.{Ends, found, put, strike, last, front, sound}
+use Rattle.gates.specs.CircuitLaws.{legal_append, legal_push}
+use Rattle.books.specs.Ends.{Ends, found, circuit, put, strike, last, front, sound}
 use Rattle.books.proofs.EndLaws.{last_split}
 
 module _ {G : Type 0} (K : Kind G) (n : ℕ) where
@@ -17,6 +17,10 @@ module _ {G : Type 0} (K : Kind G) (n : ℕ) where
   legal_reverse (x ∷ xs) =
       ap (all_legal K n) (reverse-cons x xs) ∙ legal_push K n (reverse xs) x
       ∙ ap (λ b. b && K.legal n x) (legal_reverse xs) ∙ and_comm (all_legal K n xs) (K.legal n x)
+
+  -- a book's circuit is legal exactly where both ends are
+  pub legal_circuit : (es : Ends G) → all_legal K n (circuit es) ≡ sound K n es
+  legal_circuit es = legal_append K n es.ins (reverse es.outs) ∙ ap (λ b. all_legal K n es.ins && b) (legal_reverse es.outs)
 
   -- the last of a list of legal gates is legal, and so are the others
   legal_split : (xs : List G) (g : G) → last xs ≡ Some g → all_legal K n xs ≡ true → (all_legal K n (front xs) ≡ true) × (K.legal n g ≡ true)
