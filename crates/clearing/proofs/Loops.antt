@@ -70,6 +70,10 @@ pub count_more : (p : ℕ → Bool) (n : ℕ) → count p n ≤ count p (suc n)
 unfolding count
 count_more p n = omega arith
 
+pub count_zero : (p : ℕ → Bool) → count p 0 ≡ 0
+unfolding count
+count_zero p = refl
+
 -- where q passes p passes
 one_le : (a b : Bool) → (a ≡ true → b ≡ true) → one a ≤ one b
 one_le true b h = rw (h refl) (omega arith)

@@ -1,12 +1,15 @@
 -- The plan of a matrix: it follows from the map alone, and its gates are those of the run.
-use Rattle.std.proofs.Common.{◌≡◌, ℕ, ◌^◌, true, List, sym, ap, ◌∙◌, ap₂, arith}
+use Rattle.std.proofs.Common.{◌≡◌, ℕ, ◌^◌, true, List, Ok, sym, ap, ◌∙◌, subst, ap₂, arith}
 use Rattle.words.specs.Maps.{Same, Apart}
 use Rattle.gates.specs.Cnots.{cnot}
 use Rattle.pieces.specs.Meanings.{all_moved}
 use Rattle.pieces.specs.Runs.{Local, gates_legal}
 use Rattle.matrices.specs.Matrices.{image}
+use Rattle.matrices.specs.Meanings.{rows_of, Inverted}
+use Rattle.matrices.specs.declared.matrix.Matrix.{Matrix}
+use Rattle.matrices.proofs.Held.{length_rows, row_below}
 use Rattle.clearing.specs.Clearing.{Placed, replay, run}
-use Rattle.clearing.specs.Pairs.{Pair, Inverses, pairs}
+use Rattle.clearing.specs.Pairs.{Pair, Square, Inverses, pairs}
 use Rattle.clearing.specs.Plans.{undone, pair_of, matrix_plan}
 use Rattle.clearing.proofs.MapRows.{matrix_of_same, matrix_of_image}
 use Rattle.clearing.proofs.Squares.{replay_moves}
@@ -39,3 +42,16 @@ module _ (n : ℕ) (p : Pair) (inverses : Inverses n p) where
   apart_of x y h l e =
       let same : x ≡ y = sym (inverses.back x (omega arith)) ∙ ap (image p.inverse) e ∙ inverses.back y l in
       omega arith
+
+-- ---- a matrix and its inverse as a pair
+
+rows_square : (m : Matrix) → Square m.lines (rows_of m)
+rows_square m = record { size = length_rows m; small = row_below m }
+
+pub inverses_of : (m v : Matrix) → Inverted m (Ok v) → Inverses m.lines (record { matrix = rows_of m; inverse = rows_of v })
+inverses_of m v is = record {
+  square = rows_square m;
+  square' = subst (λ (n : ℕ). Square n (rows_of v)) is.0 (rows_square v);
+  back = is.1;
+  forth = is.2;
+}
