@@ -1,14 +1,14 @@
 // The work that calls of a job share.
-ghost use Rattle.std.specs.Prelude.{◌≡◌, ◌≤◌, true, not, length, None, OnOk, ◌==◌};
+ghost use Rattle.std.specs.Prelude.{◌≡◌, ◌≤◌, true, not, None, OnOk, ◌==◌};
+ghost use Rattle.std.specs.List.{slice_get};
 ghost use Rattle.words.specs.Maps.{Same};
-ghost use Rattle.gates.specs.Circuits.{all_legal};
 ghost use Rattle.gates.specs.declared.refusal.Refusal.TheVariants.{LinesDiffer};
 ghost use Rattle.gates.specs.Refusals.{answer, first, unless_legal};
 ghost use Rattle.books.specs.Ends.{circuit, emptied, held, sound};
 ghost use Rattle.books.specs.Books.{ends, Kept};
 ghost use Rattle.pieces.specs.Meanings.{Moved};
 ghost use Rattle.pieces.specs.Jobs.{whole, shown};
-ghost use Rattle.takers.specs.Meanings.{FedAll};
+ghost use Rattle.takers.specs.Meanings.{Fed, FedAll};
 
 use books::Book;
 use gates::circuit;
@@ -16,7 +16,6 @@ use gates::end::End;
 use gates::gate::Gate;
 use gates::refusal::Refusal;
 use pieces::piece::Piece;
-use takers::feed::feed;
 use takers::taker::Taker;
 
 // Gives a piece a gate at an end. An illegal gate, which has no effect, is declined.
@@ -67,23 +66,31 @@ pub(crate) fn take_all<G: Gate, P: Piece<G>>(piece: &mut P, book: &mut Book<G>, 
 }
 
 // Feeds the gates of a book in circuit order. They are legal, and the taker has a place for each.
-#[tactic(auto, using(books::proofs::Sound::legal_reverse))]
 pub(crate) fn feed_circuit<G: Gate, T: Taker<G>>(book: &Book<G>, taker: &mut T)
     requires legal { sound G.Gate.kind (T.Taker.meaning taker.old).lines (ends book.now) ≡ true }
     requires room { held (ends book.now) ≤ (T.Taker.meaning taker.old).free }
     ensures { FedAll G.Gate.kind (T.Taker.meaning taker.old) (circuit (ends book.now)) (T.Taker.meaning taker.new) }
 {
-    let (inputs, outputs) = book.as_slices();
-    feed_all(inputs, taker);
-    feed_all(outputs, taker);
+    for at in 0..book.len() {
+        if let Some(gate) = next_gate(book, at) {
+            feed_one(gate, taker);
+        }
+    }
 }
 
-// Legal gates with a place for each are not declined.
-#[tactic(auto, using(gates::proofs::RefusalLaws::short_none))]
-fn feed_all<G: Gate, T: Taker<G>>(gates: &[G], taker: &mut T)
-    requires legal { all_legal G.Gate.kind (T.Taker.meaning taker.old).lines gates.now ≡ true }
-    requires room { length gates.now ≤ (T.Taker.meaning taker.old).free }
-    ensures { FedAll G.Gate.kind (T.Taker.meaning taker.old) gates.now (T.Taker.meaning taker.new) }
+// The gate to be fed after so many others.
+fn next_gate<G: Gate>(book: &Book<G>, at: usize) -> Option<G>
+    ensures { result ≡ slice_get (circuit (ends book.now)) at }
 {
-    let _ = feed(gates, taker);
+    book.gate(at)
+}
+
+// A legal gate with a place is taken.
+#[tactic(auto, using(gates::proofs::RefusalLaws::short_none))]
+fn feed_one<G: Gate, T: Taker<G>>(gate: G, taker: &mut T)
+    requires legal { G.Gate.kind.legal (T.Taker.meaning taker.old).lines gate ≡ true }
+    requires room { 1 ≤ (T.Taker.meaning taker.old).free }
+    ensures { Fed G.Gate.kind (T.Taker.meaning taker.old) gate (T.Taker.meaning taker.new) }
+{
+    let _ = taker.take(gate);
 }
