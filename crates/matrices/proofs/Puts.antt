@@ -1,8 +1,8 @@
 -- A matrix after a gate at one of its ends: the rows that it holds, and its map.
-use Rattle.std.proofs.Common.{◌≡◌, ℕ, ◌^◌, ◌<◌, true, List, length, get_or, take, set, sym, refl, ap, ◌∙◌, ap₂, arith}
+use Rattle.std.proofs.Common.{◌≡◌, ℕ, ◌^◌, ◌<◌, true, List, ◌++◌, length, get_or, take, drop, set, sym, refl, ap, ◌∙◌, ap₂, arith}
 use lib.Bits.{bit_xor}
 use Rattle.std.proofs.Math.Seq.{take-set-lt}
-use Rattle.std.proofs.lemmas.List.{length-map, take-map}
+use Rattle.std.proofs.lemmas.List.{length-map, length-append, length-drop, take_at}
 use Rattle.gates.specs.Cnots.{cnot, cnot_legal}
 use Rattle.gates.specs.declared.cnot.Cnot.{Cnot}
 use Rattle.gates.specs.declared.end.End.TheVariants.{Input, Output}
@@ -36,14 +36,18 @@ module _ (m : Matrix) (g : Cnot) (legal : cnot_legal m.lines g ≡ true) where
           ∙ sym (act_turns m.lines g (image (rows_of m) x) legal (image_keeps m x h));
     }
 
-  module _ (held : List ℕ) (is : held ≡ add_column g m.rows) where
-    pub input_full : length held ≡ 64
+  module _ (held : List ℕ) (is : held ≡ add_column g (rows_of m) ++ drop m.lines m.rows) where
+    length_first : length (add_column g (rows_of m)) ≡ m.lines
     unfolding add_column
-    input_full = ap length is ∙ length-map m.rows _ ∙ m.full
+    length_first = length-map (rows_of m) _ ∙ length_rows m
+
+    pub input_full : length held ≡ 64
+    input_full =
+        ap length is
+        ∙ omega (arith, length-append (add_column g (rows_of m)) (drop m.lines m.rows), length_first, length-drop m.lines m.rows, m.full, m.few)
 
     pub input_rows : take m.lines held ≡ add_column g (rows_of m)
-    unfolding add_column
-    input_rows = ap (take m.lines) is ∙ take-map _ m.lines m.rows
+    input_rows = ap (take m.lines) is ∙ take_at (add_column g (rows_of m)) _ m.lines length_first
 
     pub input_below : (r : ℕ) → r < m.lines → get_or held r 0 < 2 ^ m.lines
     input_below = below_by_first m.lines held _ input_rows (column_added_below g m.lines (rows_of m) (length_rows m) (row_below m) legal)

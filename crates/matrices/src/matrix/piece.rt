@@ -80,7 +80,7 @@ impl Matrix {
         ensures rows { rows_of self.new ≡ add_column gate (rows_of self.old) }
         ensures after { Moved cnot Input gate (matrix_meaning self.old) (matrix_meaning self.new) }
     {
-        add_column(&mut self.rows, gate);
+        add_column(&mut self.rows, self.lines, gate);
     }
 
     // The gate comes last: row `control` is added to row `target`.

@@ -1,5 +1,5 @@
 // Row words: what a word makes of them, and how gates add them up.
-ghost use Rattle.std.specs.Prelude.{◌≡◌, ◌<◌, ◌≤◌, ◌↔◌, length, if◌then◌else◌, IsTrue, EachIndex, bit_xor, slice_index, slice_set};
+ghost use Rattle.std.specs.Prelude.{◌≡◌, ◌<◌, ◌≤◌, ◌↔◌, ◌++◌, length, take, drop, if◌then◌else◌, IsTrue, EachIndex, bit_xor, slice_index, slice_set};
 ghost use Rattle.words.specs.Words.{has, parity, unit};
 ghost use Rattle.matrices.specs.Matrices.{add_column};
 
@@ -44,12 +44,13 @@ fn column_added(row: u64, gate: Cnot) -> u64
     }
 }
 
-// Adds column `target` to column `control`.
-pub(super) fn add_column(rows: &mut [u64; 64], gate: Cnot)
-    requires { gate.control < 64 }
-    ensures { rows.new ≡ add_column gate rows.old }
+// Adds column `target` to column `control` in the first rows.
+pub(super) fn add_column(rows: &mut [u64; 64], lines: u8, gate: Cnot)
+    requires few { lines ≤ 64 }
+    requires control { gate.control < 64 }
+    ensures { rows.new ≡ add_column gate (take lines rows.old) ++ drop lines rows.old }
 {
-    for row in rows.iter_mut() {
+    for row in &mut rows[..lines as usize] {
         *row = column_added(*row, gate);
     }
 }
