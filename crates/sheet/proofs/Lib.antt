@@ -1,6 +1,7 @@
 pub mod Pieces
 pub mod Numeral
 pub mod Lines
+pub mod Rows
 pub mod Ahead
 pub mod Bodies
 pub mod Sheets

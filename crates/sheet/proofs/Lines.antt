@@ -1,11 +1,13 @@
 -- Laws of the forms of lines.
-use Rattle.std.proofs.Common.{◌≡◌, ℕ, suc, ◌+◌, ◌*◌, ◌^◌, ◌<◌, ◌≤◌, true, false, cond, eqb, ltb, List, [], ◌∷◌, ◌++◌, Some, None, Err, Option, sym, refl, ap, ◌∙◌, one-mul, pow-suc, add-one, arith, rules}
+use Rattle.std.proofs.Common.{◌≡◌, ℕ, suc, ◌+◌, ◌-◌, ◌*◌, ◌^◌, ◌<◌, ◌≤◌, true, false, cond, eqb, ltb, List, [], ◌∷◌, ◌++◌, length, get_or, take, drop, Some, None, Err, Option, sym, refl, ap, ◌∙◌, one-mul, pow-suc, add-one, arith, rules}
 use lib.Bits.{bit_or, or_shifted_r}
 use native.Mathlib.Nat.{pow-le-pow_right}
-use Rattle.std.proofs.lemmas.Bool.{cond-true, cond-false, le-leb, lt-leb, lt-ltb, le-ltb, ltb-true, ltb-false}
+use Rattle.std.proofs.lemmas.List.{take_rest}
+use Rattle.std.proofs.lemmas.Bool.{cond-true, cond-false, eq-eqb, and_from, le-leb, lt-leb, lt-ltb, le-ltb, ltb-true, ltb-false}
 use Rattle.sheet.specs.Text.{onto, pieces, numeral}
-use Rattle.sheet.specs.Form.{both, numerals, numbers, bit, below_word, bits, mct_of, byte, with_line}
+use Rattle.sheet.specs.Form.{both, numerals, numbers, bit, below_word, bits, triple, after_letter, fields, mct_of, byte, with_line}
 use Rattle.gates.specs.declared.refusal.Refusal.TheVariants.{WrongForm}
+use Rattle.std.specs.Char.{is_ascii_uppercase}
 
 both_not_nil : (o : Option ℕ) (ns : Option (List ℕ)) → both o ns ≡ Some [] → ⊥
 both_not_nil None ns e = let z : ◌≡◌ {A = ℕ} 0 1 = cc in omega arith
@@ -29,17 +31,17 @@ numbers_not_nil s e =
     both_not_nil (numeral p.0) (numerals p.1) (sym (ap numerals p.2) ∙ e)
 
 -- a bit is 0 or 1
-bit_small : (d b : ℕ) → bit d ≡ Some b → b ≤ 1
+pub bit_small : (d b : ℕ) → bit d ≡ Some b → b ≤ 1
 bit_small d b e = search rules
 
--- one bit more is one power more
+-- with one bit more, 64 bits hold it
 pub bit_fits : (d b w k : ℕ) → bit d ≡ Some b → w < 2 ^ k → k < 64 → b + w * 2 < 2 ^ 64
 bit_fits d b w k e h l =
     let small = bit_small d b e in
     let p : 2 ^ suc k ≤ 2 ^ 64 = pow-le-pow_right (omega arith) l in
     omega (arith, small, pow-suc 2 k, p)
 
-below_none : (o : Option ℕ) → below_word o None ≡ None
+pub below_none : (o : Option ℕ) → below_word o None ≡ None
 below_none None = refl
 below_none (Some b) = refl
 
@@ -47,6 +49,12 @@ below_none (Some b) = refl
 pub bits_none : (front : List ℕ) (b : ℕ) (done : List ℕ) → bit b ≡ None → bits (front ++ b ∷ done) ≡ None
 bits_none [] b done e = ap (λ o. below_word o (bits done)) e
 bits_none (d ∷ front) b done e = ap (below_word (bit d)) (bits_none front b done e) ∙ below_none (bit d)
+
+pub fields_at : (l : List ℕ) → 2 ≤ length l → is_ascii_uppercase (get_or l 0 0) ≡ true → get_or l 1 0 ≡ 32 → fields l ≡ after_letter (get_or l 0 0) (triple (numbers (take (length l - 2) (drop 2 l))))
+fields_at [] h u e = absurd (omega arith)
+fields_at (b ∷ []) h u e = absurd (omega arith)
+fields_at (b ∷ s ∷ rest) h u e =
+    cond-true _ _ _ (and_from _ _ u (eq-eqb s 32 e)) ∙ ap (λ r. after_letter b (triple (numbers r))) (sym (take_rest (b ∷ s ∷ rest) 2))
 
 -- one control more
 mct_step_of : (n set least c : ℕ) (o : Option (List ℕ)) → (o ≡ Some [] → ⊥) → least ≤ c → mct_of n set least (both (Some c) o) ≡ mct_of n (set + 2 ^ c) (c + 1) o

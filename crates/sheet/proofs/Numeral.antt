@@ -1,11 +1,19 @@
 -- Laws of `numeral`.
-use Rattle.std.proofs.Common.{◌≡◌, ℕ, ◌+◌, ◌-◌, ◌*◌, ◌^◌, ◌<◌, Bool, true, false, cond, not, ◌&&◌, ◌||◌, List, [], ◌∷◌, length, get_or, Some, None, decimal, sym, refl, ap, ◌∙◌, ⊎_elim, arith, rules}
+use Rattle.std.proofs.Common.{◌≡◌, ℕ, ◌+◌, ◌-◌, ◌*◌, ◌^◌, ◌<◌, ◌≤◌, Bool, true, false, cond, not, ◌&&◌, ◌||◌, List, [], ◌∷◌, length, get_or, Some, None, decimal, sym, refl, ap, ◌∙◌, ⊎_elim, pow-suc, add-one, arith, rules}
+use native.Mathlib.Nat.{pow-le-pow_right}
 use Rattle.std.specs.Str.{all_ascii_digits}
 use Rattle.std.proofs.lemmas.Str.Parse.{IsNumeralModel, numerals_by_fold, digits_value_short}
 use Rattle.std.proofs.lemmas.Fmt.{decimal-digits_value, digits_decimal, digits_value-decimal, length-decimal-le, decimal_nonempty, first_decimal, decimal_digit}
 use Rattle.std.proofs.lemmas.Bool.{cond-true, and_parts, leb-true, ltb-true, eqb-true, eq-eqb, false≢true, and_from, lt-ltb, le-leb, cases_lt}
 use Rattle.std.specs.Char.{is_ascii_digit}
 use Rattle.sheet.specs.Text.{digits_after, sized, numeral}
+
+-- i digits write a number below 10 ^ i
+pub below_more : (n d i : ℕ) → n < 10 ^ i → d ≤ 9 → n * 10 + d < 10 ^ (i + 1)
+below_more n d i h l = rw (add-one, pow-suc) (omega arith)
+
+pub below_five : (n i : ℕ) → n < 10 ^ i → i ≤ 5 → n < 100000
+below_five n i h l = let p : 10 ^ i ≤ 10 ^ 5 = pow-le-pow_right (omega arith) l in omega arith
 
 -- digits with no test
 pub read_on : ℕ → List ℕ → ℕ

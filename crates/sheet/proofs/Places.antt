@@ -1,7 +1,7 @@
 -- Where the lines and the bodies of a sheet stand in it.
 use Rattle.std.proofs.Common.{◌≡◌, ℕ, ◌+◌, ◌<◌, ◌≤◌, cond, eqb, List, [], ◌∷◌, ◌++◌, length, get_or, drop, Ok, Err, Result, sym, refl, ap, ◌∙◌, append_assoc, append-nil, arith, length-append, length-drop}
 use Rattle.std.specs.List.{join_with_byte}
-use Rattle.std.proofs.lemmas.Bool.{ne_eqb}
+use Rattle.std.proofs.lemmas.Bool.{eq-eqb, ne_eqb}
 use Rattle.std.proofs.lemmas.List.{drop_more, drop_all}
 use Rattle.sheet.specs.declared.fault.Fault.{Fault}
 use Rattle.sheet.specs.declared.fault.Layer.TheVariants as layer
@@ -16,7 +16,7 @@ use Rattle.sheet.specs.Sheet.{Held, bodies}
 use Rattle.sheet.specs.Render.{lines_text, body_text}
 use Rattle.sheet.specs.Parts.{parts_from, body_rest}
 use Rattle.sheet.proofs.Back.{rejoined_pieces}
-use Rattle.sheet.proofs.Accepted.{ok_then, ok_same}
+use Rattle.sheet.proofs.Accepted.{ok_then, ok_same, err_then}
 use Rattle.sheet.proofs.Whole.{body_lines_back}
 use Rattle.sheet.proofs.Lines.{pieces_cons}
 use Rattle.sheet.proofs.Sheets.{ended_pieces}
@@ -69,6 +69,10 @@ module _ (total : Result (List Item) Fault) (done : List Item) (cs : List Conten
     unfolding here reads then_bodies
     next = so_far ∙ ap (λ l. and_then (bodies l first (pieces 10 (drop at s))) (λ hs. Ok (done ++ parts_from first at hs))) (drop_more cs i d left)
 
+    pub places_stop : (f : Fault) → body_rest (get_or cs i d) first (drop at s) ≡ Err f → total ≡ Err f
+    unfolding here reads then_bodies
+    places_stop f e = next ∙ ap then_bodies (err_then reads (λ x. x.1) f e)
+
     -- the next body ends at the byte `end`
     pub places_more : (end : ℕ) (items : List Item) (n : ℕ) → at ≤ end → end ≤ length s → body_rest (get_or cs i d) first (drop at s) ≡ Ok (pieces 10 (drop end s))
         → items ≡ done ++ record { contents = get_or cs i d; first = first; start = at; end = end } ∷ [] → n ≡ (get_or cs i d).count
@@ -95,3 +99,8 @@ module _ (total : Result (List Item) Fault) (done : List Item) (cs : List Conten
     places_over l =
         at_end
         ∙ ap (λ t. and_then (cond t (Ok []) (Err (fault WrongForm first layer.Body))) (λ hs. Ok (done ++ parts_from first at hs))) (ne_eqb (length (drop at s)) 0 (λ z. omega (arith, z, length-drop at s)))
+
+    pub places_all : length s ≤ at → total ≡ Ok done
+    places_all l =
+        let none : length (drop at s) ≡ 0 = omega (arith, length-drop at s) in
+        at_end ∙ ap (λ t. and_then (cond t (Ok []) (Err (fault WrongForm first layer.Body))) (λ hs. Ok (done ++ parts_from first at hs))) (eq-eqb (length (drop at s)) 0 none) ∙ ap Ok (append-nil done)

@@ -21,6 +21,19 @@ pub struct Body<'a> {
     pub part: &'a [u8],
 }
 
+impl<'a> Body<'a> {
+    // All of its lines, as they are left to be read.
+    fn unread(self) -> Rest<'a>
+        ensures lines { result.lines.now ≡ self.entry.part.now }
+        ensures number { result.number ≡ self.entry.first }
+    {
+        Rest {
+            lines: self.part,
+            number: self.first,
+        }
+    }
+}
+
 // A line of a body: its number, and its part of the sheet.
 #[derive(Clone, Copy)]
 pub enum BodyLine<'a> {
@@ -93,13 +106,10 @@ fn read_lines(body: Body<'_>, entries: &mut [Entry]) -> Result<usize, Fault>
     ensures entries { Fills result (held_by body.entry) entries.old entries.new }
 {
     if !is_told(body) {
-        return Err(Fault::at(Refusal::WrongContents, body.first, Layer::Body));
+        return Err(Fault::in_body(Refusal::WrongContents, body.first));
     }
     let count = body.contents.count;
-    let mut rest = Rest {
-        lines: body.part,
-        number: body.first,
-    };
+    let mut rest = body.unread();
     // `at` is the row of the line and its place; there may be fewer places than lines.
     for at in 0..count {
         let (entry, after) = next_entry(body.contents, at, rest)?;
@@ -107,7 +117,7 @@ fn read_lines(body: Body<'_>, entries: &mut [Entry]) -> Result<usize, Fault>
         rest = after;
     }
     if !rest.lines.is_empty() {
-        return Err(Fault::at(Refusal::WrongForm, rest.number, Layer::Body));
+        return Err(Fault::in_body(Refusal::WrongForm, rest.number));
     }
     Ok(count)
 }

@@ -1,6 +1,7 @@
 // Why a sheet is declined, and where.
 ghost use Rattle.std.specs.Prelude.{◌≡◌};
 ghost use Rattle.sheet.specs.Fault.{fault, layer_name};
+ghost use Rattle.sheet.specs.declared.fault.Layer.TheVariants as layer;
 
 use gates::refusal::Refusal;
 
@@ -26,6 +27,17 @@ impl Fault {
         ensures { result ≡ fault why line layer }
     {
         Fault { why, line, layer }
+    }
+
+    // A fault of a body as a whole, told at a line of it.
+    pub(crate) fn in_body(why: Refusal, line: u64) -> Fault
+        ensures { result ≡ fault why line layer.Body }
+    {
+        Fault {
+            why,
+            line,
+            layer: Layer::Body,
+        }
     }
 }
 

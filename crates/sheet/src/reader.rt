@@ -107,7 +107,7 @@ fn read_bodies(sheet: &[u8], contents: &[Contents], from: usize) -> Result<Sheet
         start = item.end;
     }
     if start < sheet.len() {
-        return Err(Fault::at(Refusal::WrongForm, first, Layer::Body));
+        return Err(Fault::in_body(Refusal::WrongForm, first));
     }
     Ok(Sheet::of(&items))
 }

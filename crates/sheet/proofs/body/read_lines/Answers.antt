@@ -12,7 +12,7 @@ use Rattle.sheet.proofs.Holding.{held_stop, held_over, laid_none, laid_more}
 use Rattle.sheet.proofs.body.read_lines.Goals as goal
 
 pub loop-at-init : goal.loop-at-init
-loop-at-init c = ([], refl, rw sub-zero (after_none _), laid_none _, omega arith)
+loop-at-init c = ([], refl, rw (sub-zero, c.unread-rest.ensures.lines) (after_none _), laid_none _, omega arith)
 
 pub returns-in_err-entry-clause-answer : goal.returns-in_err-entry-clause-answer
 returns-in_err-entry-clause-answer c =
@@ -43,4 +43,4 @@ returns-then-not-is_empty-clause-answer c =
     let end = body_end b.contents.kind b.contents.lines b.first _ inv.0 c.loop-at.at b.contents.count _ inv.2 c.loop-at-test.false in
     let all : c.loop-at.at ≡ b.contents.count = omega arith in
     let over = held_over b.contents.kind b.contents.lines b.contents.count b.first b.part.now (sym c.if-not-is_told.ensures) inv.0 c.loop-at.rest.lines.now end (eqb-false _ 0 (sym c.if-not-is_empty.ensures)) in
-    ap Err (c.at-then-not-is_empty.ensures ∙ ap (λ i. fault WrongForm i Body) (inv.4 ∙ ap (λ i. b.first + i) all)) ∙ sym (ap how_many over)
+    ap Err (c.in_body-then-not-is_empty.ensures ∙ ap (λ i. fault WrongForm i Body) (inv.4 ∙ ap (λ i. b.first + i) all)) ∙ sym (ap how_many over)

@@ -27,4 +27,4 @@ loop-told-preserved c =
 
 pub returns-then-start-sheet : goal.returns-then-start-sheet
 returns-then-start-sheet c =
-    ap Err c.at.ensures ∙ sym (places_over _ _ c.args.contents.now _ _ _ c.args.sheet.now c.loop-told.invariant.0 c.loop-told-test.false c.if-start-sheet.true)
+    ap Err c.in_body.ensures ∙ sym (places_over _ _ c.args.contents.now _ _ _ c.args.sheet.now c.loop-told.invariant.0 c.loop-told-test.false c.if-start-sheet.true)
