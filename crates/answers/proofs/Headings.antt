@@ -4,7 +4,7 @@ use Rattle.std.specs.List.{sum_by}
 use Rattle.std.proofs.lemmas.List.Sums.{sum_by-cons, sum_by_more}
 use Rattle.std.proofs.lemmas.List.{append-nil, take_all, take_more, drop_more, drop_all}
 use Rattle.std.proofs.Math.Bool.{or-true}
-use Rattle.std.proofs.lemmas.Bool.{lt-ltb, le-ltb}
+use Rattle.std.proofs.lemmas.Bool.{lt-ltb}
 use Rattle.std.proofs.lemmas.Grind.{flat_map-append}
 use Rattle.sheet.specs.Render.{lines_text}
 use Rattle.answers.specs.declared.head.Head.{Head}
@@ -91,24 +91,27 @@ module _ (room n first at start : ℕ) (hs : List Head) (i : ℕ) (d : Head) (l 
   step : Bool → Option ℕ
   step t = cond t (Some n) (unfit_from room (n + 1) (first + (get_or hs i d).count) end (start + (get_or hs i d).size) (drop (i + 1) hs))
 
-  here : unfit_from room n first at start (drop i hs) ≡ step (ltb room end || ends_past room start (get_or hs i d).size)
+  here : unfit_from room n first at start (drop i hs) ≡ step (ends_past room 0 end || ends_past room start (get_or hs i d).size)
   unfolding step
   here =
       let size = length (contents_line first (get_or hs i d)) + 1 in
       let some : ltb 0 size ≡ true = lt-ltb 0 size (omega arith) in
+      let some-end : ltb 0 end ≡ true = lt-ltb 0 end (omega (arith, q)) in
+      let same : at + size ≡ 0 + end = omega (arith, q) in
+      let line : ends_past room at size ≡ ends_past room 0 end = (λ j. some j && ltb room (same j)) ∙ ap (λ t. t && ltb room (0 + end)) (sym some-end) in
       ap (unfit_from room n first at start) (drop_more hs i d l)
-      ∙ (λ j. cond ((some j && ltb room (sym q j)) || ends_past room start (get_or hs i d).size) (Some n)
+      ∙ (λ j. cond (line j || ends_past room start (get_or hs i d).size) (Some n)
       (unfit_from room (n + 1) (first + (get_or hs i d).count) (sym q j) (start + (get_or hs i d).size) (drop (i + 1) hs)))
 
-  pub unfit_line : room < end → unfit_from room n first at start (drop i hs) ≡ Some n
+  pub unfit_line : true ≡ ends_past room 0 end → unfit_from room n first at start (drop i hs) ≡ Some n
   unfolding step
-  unfit_line h = here ∙ ap (λ t. step (t || ends_past room start (get_or hs i d).size)) (lt-ltb room end h)
+  unfit_line e = here ∙ ap (λ t. step (t || ends_past room start (get_or hs i d).size)) (sym e)
 
   pub unfit_body : true ≡ ends_past room start (get_or hs i d).size → unfit_from room n first at start (drop i hs) ≡ Some n
   unfolding step
-  unfit_body e = here ∙ ap (λ t. step (ltb room end || t)) (sym e) ∙ ap step (or-true (ltb room end))
+  unfit_body e = here ∙ ap (λ t. step (ends_past room 0 end || t)) (sym e) ∙ ap step (or-true (ends_past room 0 end))
 
-  pub unfit_later : end ≤ room → false ≡ ends_past room start (get_or hs i d).size
+  pub unfit_later : false ≡ ends_past room 0 end → false ≡ ends_past room start (get_or hs i d).size
       → unfit_from room n first at start (drop i hs) ≡ unfit_from room (n + 1) (first + (get_or hs i d).count) end (start + (get_or hs i d).size) (drop (i + 1) hs)
   unfolding step
-  unfit_later h e = here ∙ (λ j. step (le-ltb room end h j || sym e j))
+  unfit_later h e = here ∙ (λ j. step (sym h j || sym e j))

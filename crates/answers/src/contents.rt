@@ -64,6 +64,14 @@ fn ends_past(room: usize, at: usize, size: usize) -> bool
     size > room.saturating_sub(at)
 }
 
+// The contents line of the answer at an index.
+fn contents_place(index: usize) -> u64
+    requires { index < 16 }
+    ensures { result ≡ index + 2 }
+{
+    index as u64 + 2
+}
+
 // The contents line of the first answer that does not fit the room, or line 1 where there is no answer and it does not fit.
 pub(crate) fn first_unfit(heads: &ArrayVec<Head, 16>, room: usize) -> Option<u64>
     requires { room ≤ 65536 }
@@ -81,8 +89,8 @@ pub(crate) fn first_unfit(heads: &ArrayVec<Head, 16>, room: usize) -> Option<u64
     // A loop and no chain: nothing is known of sums that a closure changes as it goes.
     for (i, head) in heads.iter().enumerate() {
         pen.contents_line(*head, first);
-        if pen.at > room || ends_past(room, start, head.size) {
-            return Some(line_after(i));
+        if ends_past(room, 0, pen.at) || ends_past(room, start, head.size) {
+            return Some(contents_place(i));
         }
         start += head.size;
         first += head.count as u64;
