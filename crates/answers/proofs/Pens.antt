@@ -4,6 +4,7 @@ use Rattle.std.specs.List.{flat_map}
 use Rattle.std.proofs.lemmas.List.{append-nil, take_all, take_more}
 use Rattle.std.proofs.lemmas.List.Sums.{fold-append}
 use Rattle.std.proofs.lemmas.List.Folds.{flat_map-map}
+use Rattle.std.proofs.lemmas.Fmt.{decimal_digit}
 use Rattle.std.proofs.lemmas.Grind.{flat_map-append}
 use Rattle.sheet.specs.Render.{numbers_text, lines_text}
 use Rattle.answers.specs.Laid.{laid, Puts}
@@ -22,6 +23,10 @@ wrote_joined s ps bs = sym (wrote_append s ps bs)
 pub wrote_none : (s : List ℕ × ℕ) → wrote s [] ≡ s
 unfolding wrote
 wrote_none s = refl
+
+-- a number below 10 is one digit
+pub wrote_one_digit : (s : List ℕ × ℕ) (n : ℕ) → n < 10 → wrote s ((48 + n) ∷ []) ≡ wrote s (decimal n)
+wrote_one_digit s n l = ap (wrote s) (sym (decimal_digit n l))
 
 -- the byte at i, after those before it
 pub wrote_byte : (s : List ℕ × ℕ) (bs : List ℕ) (i : ℕ) → i < length bs → wrote s (take (i + 1) bs) ≡ wrote (wrote s (take i bs)) (get_or bs i 0 ∷ [])

@@ -66,11 +66,11 @@ impl Line for Mct {
     fn write(self, n: u8, pen: &mut Pen) {
         for line in 0..8 {
             if has_bit(self.controls.into(), line) {
-                pen.number(line);
+                pen.short_number(line.into());
                 pen.byte(b' ');
             }
         }
-        pen.number(self.target);
+        pen.short_number(self.target.into());
     }
 }
 

@@ -1,5 +1,5 @@
 // A pen over a lent buffer. Its place may pass the buffer's end: the bytes there are counted and left out.
-ghost use Rattle.std.specs.Prelude.{◌≡◌, [], ◌∷◌};
+ghost use Rattle.std.specs.Prelude.{◌≡◌, [], ◌∷◌, decimal};
 ghost use Rattle.sheet.specs.Render.{numbers_text};
 ghost use Rattle.answers.specs.Pens.{Writes};
 
@@ -32,8 +32,10 @@ impl Pen<'_> {
     {
         if self.at < self.out.len() {
             self.out[self.at] = b;
+            self.at += 1;
+        } else {
+            self.at = self.at.saturating_add(1);
         }
-        self.at = self.at.saturating_add(1);
     }
 
     // Bytes, in order.
@@ -54,6 +56,18 @@ impl Pen<'_> {
         self.bytes(digits.format(n).as_bytes());
     }
 
+    // The decimal digits of a number that most often has one.
+    #[tactic(auto, using(crate::proofs::Pens::wrote_one_digit))]
+    pub(crate) fn short_number(&mut self, n: u64)
+        ensures { Writes self.old (decimal n) self.new }
+    {
+        if n < 10 {
+            self.byte(b'0' + n as u8);
+        } else {
+            self.number(n);
+        }
+    }
+
     // Numbers, with one space between.
     #[tactic(auto, using(crate::proofs::Pens::number_steps))]
     pub(crate) fn numbers(&mut self, numbers: &[u64])
@@ -63,9 +77,9 @@ impl Pen<'_> {
             return;
         };
         for n in others {
-            self.number(*n);
+            self.short_number(*n);
             self.byte(b' ');
         }
-        self.number(*last);
+        self.short_number(*last);
     }
 }
