@@ -1,5 +1,5 @@
 // MCT gates: a NOT with any number of controls.
-ghost use Rattle.std.specs.Prelude.{◌≡◌, Some};
+ghost use Rattle.std.specs.Prelude.{◌≡◌, ◌<◌, ◌++◌, Some, codes, decimal};
 ghost use Rattle.std.proofs.Common.{rules};
 ghost use Rattle.gates.specs.Mcts.{mct, mct_probes};
 ghost use Rattle.gates.specs.Texts.{mct_text};
@@ -71,10 +71,28 @@ impl fmt::Display for Mct {
         write!(f, "(")?;
         for line in 0..8 {
             if has_bit(u64::from(self.controls), line) {
-                write!(f, "{line} ")?;
+                f.write_str(control_text(line))?;
             }
         }
         let target = self.target;
         write!(f, "-> {target})")
+    }
+}
+
+// A control as it is written: its line, and a space after it.
+#[tactic(auto, using(std::proofs::lemmas::Fmt::decimal_digit))]
+fn control_text(line: u8) -> &'static str
+    requires { line < 8 }
+    ensures { result.now ≡ decimal line ++ codes " " }
+{
+    match line {
+        0 => "0 ",
+        1 => "1 ",
+        2 => "2 ",
+        3 => "3 ",
+        4 => "4 ",
+        5 => "5 ",
+        6 => "6 ",
+        _ => "7 ",
     }
 }
