@@ -1,6 +1,9 @@
 -- The rows that a matrix holds: as many as it has lines, each a word on its lines.
-use Rattle.std.proofs.Common.{◌≡◌, ℕ, zero, suc, ◌^◌, ◌<◌, List, [], ◌∷◌, length, get_or, take, set, sym, refl, ap, ◌∙◌, subst, arith}
+use Rattle.std.proofs.Common.{◌≡◌, ℕ, zero, suc, ◌^◌, ◌<◌, cond, ltb, List, [], ◌∷◌, length, get_or, take, set, Some, None, sym, refl, ap, ◌∙◌, subst, ⊎_elim, arith}
 use Rattle.std.proofs.lemmas.List.{get_or-take, length-take-le, take_all}
+use Rattle.std.proofs.lemmas.Option.{slice_get-get_or, slice_get_past}
+use Rattle.std.proofs.lemmas.Bool.{cases_lt, lt-ltb, le-ltb, cond-true, cond-false}
+use Rattle.std.specs.List.{slice_get}
 use Rattle.words.specs.Maps.{Keeps}
 use Rattle.matrices.specs.Matrices.{image}
 use Rattle.matrices.specs.Meanings.{rows_of}
@@ -19,6 +22,13 @@ module _ (m : Matrix) where
 
   pub image_keeps : Keeps m.lines (image (rows_of m))
   image_keeps x _ = subst (λ (k : ℕ). image (rows_of m) x < 2 ^ k) length_rows (image_lt (rows_of m) x)
+
+  pub nth_row : (r : ℕ) → slice_get (rows_of m) r ≡ cond (ltb r m.lines) (Some (get_or m.rows r 0)) None
+  nth_row r =
+      ⊎_elim
+      (λ h. slice_get-get_or (rows_of m) r 0 (omega (arith, length_rows)) ∙ ap Some (row_at r h) ∙ sym (cond-true (ltb r m.lines) _ _ (lt-ltb r m.lines h)))
+      (λ h. slice_get_past (rows_of m) r (omega (arith, length_rows)) ∙ sym (cond-false (ltb r m.lines) _ _ (le-ltb r m.lines h)))
+      (cases_lt r m.lines)
 
 -- held rows that begin with words on n lines
 pub below_by_first : (n : ℕ) (held rows : List ℕ) → take n held ≡ rows → ((r : ℕ) → r < n → get_or rows r 0 < 2 ^ n) → (r : ℕ) → r < n → get_or held r 0 < 2 ^ n

@@ -18,9 +18,12 @@ pub(super) fn are_units(rows: &[u64]) -> bool
     requires { length rows.now ≤ 64 }
     ensures { IsTrue result ↔ EachIndex rows.now (λ k. slice_index rows.now k ≡ unit k) }
 {
-    rows.iter()
-        .enumerate()
-        .all(|(line, row)| *row == unit(line as u8))
+    for (line, row) in rows.iter().enumerate() {
+        if *row != unit(line as u8) {
+            return false;
+        }
+    }
+    true
 }
 
 // Adds row `control` to row `target`.
