@@ -97,7 +97,7 @@ fn read_bodies(sheet: &[u8], contents: &[Contents], from: usize) -> Result<Sheet
     requires { (length contents.now ≤ 16) × ((AllByRecursion Sound contents.now) × (from ≤ length sheet.now)) }
     ensures { items_of result ≡ and_then (bodies contents.now (length contents.now + 2) (pieces 10 (drop from sheet.now))) (λ hs. Ok (parts_from (length contents.now + 2) from hs)) }
 {
-    let mut items = ArrayVec::new();
+    let mut items = Sheet::new();
     let mut first = contents.len() as u64 + 2;
     let mut start = from;
     for told in contents {
@@ -109,7 +109,7 @@ fn read_bodies(sheet: &[u8], contents: &[Contents], from: usize) -> Result<Sheet
     if start < sheet.len() {
         return Err(Fault::in_body(Refusal::WrongForm, first));
     }
-    Ok(Sheet::of(&items))
+    Ok(items)
 }
 
 // Whether a sheet has 1 to 16,384 bytes.

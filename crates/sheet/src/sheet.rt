@@ -2,7 +2,6 @@
 ghost use Rattle.std.specs.Prelude.{◌≤◌};
 
 use crate::item::Item;
-use arrayvec::ArrayVec;
 
 // The first `count` of the places hold the items: an array, since a sheet is `Copy`, as an `ArrayVec` is not.
 #[derive(Clone, Copy)]
@@ -13,18 +12,26 @@ pub struct Sheet {
 }
 
 impl Sheet {
-    ghost use Rattle.std.specs.Prelude.{◌≡◌};
+    ghost use Rattle.std.specs.Prelude.{◌≡◌, ◌+◌, ◌<◌, [], ◌∷◌, ◌++◌};
     ghost use Rattle.sheet.specs.Parts.{sheet_items};
 
-    // The sheet of a list of items.
-    pub(crate) fn of(list: &ArrayVec<Item, 16>) -> Sheet
-        ensures { sheet_items result ≡ list.now.items }
+    // A sheet without items.
+    pub(crate) fn new() -> Sheet
+        ensures { sheet_items result ≡ [] }
     {
-        let mut items = [Item::default(); 16];
-        items[..list.len()].copy_from_slice(list.as_slice());
         Sheet {
-            items,
-            count: list.len(),
+            items: [Item::default(); 16],
+            count: 0,
         }
+    }
+
+    // One item more, after all others.
+    pub(crate) fn push(&mut self, item: Item)
+        requires { self.old.count < 16 }
+        ensures items { sheet_items self.new ≡ sheet_items self.old ++ item ∷ [] }
+        ensures count { self.new.count ≡ self.old.count + 1 }
+    {
+        self.items[self.count] = item;
+        self.count += 1;
     }
 }

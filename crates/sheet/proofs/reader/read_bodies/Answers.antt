@@ -2,6 +2,7 @@ use Rattle.std.proofs.Common.{◌<◌, [], ◌∷◌, ◌++◌, Err, sym, ap, �
 use Rattle.sheet.specs.declared.contents.Contents.{Contents}
 use Rattle.sheet.specs.declared.contents.Kind.TheVariants.{Matrix}
 use Rattle.sheet.specs.Sheet.{Sound}
+use Rattle.sheet.specs.Parts.{sheet_items}
 use Rattle.sheet.proofs.Places.{places_more, places_over}
 use Rattle.sheet.proofs.Sound.{every_at}
 use Rattle.sheet.proofs.reader.read_bodies.Goals as goal
@@ -19,9 +20,9 @@ pub loop-told-preserved : goal.loop-told-preserved
 loop-told-preserved c =
     let next = c.in_ok-item.ensures in (
       places_more _ _ c.args.contents.now _ _ _ c.args.sheet.now c.loop-told.invariant.0 c.loop-told-test.true _ _ _ _ next.ordered next.within next.rest
-          (c.push.ensures.items ∙ ap (λ z. c.loop-told.items.items ++ z ∷ []) next.item) (ap (λ z. z.contents.count) next.item),
+          (c.push.ensures.items ∙ ap (λ z. sheet_items c.loop-told.items ++ z ∷ []) next.item) (ap (λ z. z.contents.count) next.item),
       omega (arith, small (goal.at.loop-told-preserved c).In_ok-item),
-      omega (arith, c.push.ensures.len),
+      omega (arith, c.push.ensures.count),
       next.within,
     )
 
