@@ -29,7 +29,7 @@ impl Fault {
         Fault { why, line, layer }
     }
 
-    // A fault of a body as a whole, told at a line of it.
+    // A fault of a line of a body, or of what stands after the last.
     pub(crate) fn in_body(why: Refusal, line: u64) -> Fault
         ensures { result ≡ fault why line layer.Body }
     {
