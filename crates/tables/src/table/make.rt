@@ -1,5 +1,5 @@
 // How a table is made.
-ghost use Rattle.std.specs.Prelude.{◌≡◌, ℕ, ◌^◌, ◌<◌, ◌≤◌, ◌&&◌, length, ◌==◌, nat_le, slice_index};
+ghost use Rattle.std.specs.Prelude.{◌≡◌, ℕ, ◌^◌, ◌<◌, ◌≤◌, ◌&&◌, length, take, EachIndex, ◌==◌, nat_le, slice_index};
 ghost use Rattle.words.specs.Maps.{Identity, Same};
 ghost use Rattle.tables.specs.Tables.{Made, counting, table_meaning};
 
@@ -19,7 +19,10 @@ impl Table {
         if let Some(row) = first_wide(lines, images) {
             return Err(Refusal::WideRow { row });
         }
-        Ok(Table::by(lines, |word| images[word] as u8))
+        Ok(Table {
+            lines,
+            images: padded(images),
+        })
     }
 
     // The table in which every word is its own image.
@@ -54,4 +57,17 @@ fn is_size(lines: u8, count: usize) -> bool
     ensures { result ≡ (nat_le 1 lines && (nat_le lines 8 && count == 2 ^ lines)) }
 {
     (1..=8).contains(&lines) && count == word_count(lines)
+}
+
+// The images in front of zeros.
+fn padded(images: &[u64]) -> [u8; 256]
+    requires few { length images.now ≤ 256 }
+    requires small { EachIndex images.now (λ x. slice_index images.now x < 256) }
+    ensures { take (length images.now) result ≡ images.now }
+{
+    let mut held = [0; 256];
+    for (word, image) in images.iter().enumerate() {
+        held[word] = *image as u8;
+    }
+    held
 }
