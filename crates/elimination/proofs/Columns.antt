@@ -1,10 +1,11 @@
 -- Words read across, a bit at a time.
-use Rattle.std.proofs.Common.{◌≡◌, ℕ, ◌+◌, ◌*◌, ◌/◌, ◌%◌, ◌^◌, ◌<◌, ◌≤◌, Bool, false, ◌&&◌, eqb, ◌≢◌, List, get_or, sym, refl, ap, ◌∙◌, subst, ap₂, mod-lt, zero-mul, add-one, arith, pow_pos, pow_mono, below_more}
+use Rattle.std.proofs.Common.{◌≡◌, ℕ, ◌+◌, ◌*◌, ◌/◌, ◌%◌, ◌^◌, ◌<◌, ◌≤◌, Bool, false, ◌&&◌, eqb, ◌≢◌, List, length, get_or, set, sym, refl, ap, ◌∙◌, subst, ap₂, mod-lt, zero-mul, add-one, arith, pow_pos, pow_mono, below_more}
 use mathlib.Core.Bool.{and-true, and-false}
 use lib.Bits.{bit_xor, bit_and, xor_lt, and_mask}
 use lib.Pow.{pow-lt}
 use lib.Count.{ones}
 use Rattle.std.proofs.lemmas.Nat.{one_shl}
+use Rattle.std.proofs.lemmas.List.{get_or-set_same, get_or-set_other}
 use Rattle.std.proofs.lemmas.Bool.{eq-eqb, ne_eqb}
 use Rattle.words.specs.Words.{has}
 use Rattle.words.proofs.Bits.{bit_above, has_xor}
@@ -54,6 +55,13 @@ read_more words j i w hi h =
 -- the columns so far
 abbrev pub Reads : ℕ → List ℕ → ℕ → List ℕ → Type 0
 Reads n words j columns = (k : ℕ) → k < j → Read words k n (get_or columns k 0)
+
+pub reads_more : (n : ℕ) (words : List ℕ) (j : ℕ) (columns : List ℕ) (w : ℕ) → j < length columns → Reads n words j columns → Read words j n w
+    → Reads n words (j + 1) (set columns j w)
+reads_more n words j columns w lt h r =
+    below_more (λ (k : ℕ). Read words k n (get_or (set columns j w) k 0)) j
+    (λ k hk. let ne : k ≢ j = omega arith in subst (Read words k n) (sym (get_or-set_other columns j k w 0 ne)) (h k hk))
+    (subst (Read words j n) (sym (get_or-set_same columns j w 0 lt)) r)
 
 -- the count of the first i words
 pub counted_more : (words : List ℕ) (i c : ℕ) → i < 64 → get_or words i 0 < 2 ^ 64 → (c ≡ total i (off words)) × (c ≤ 64 * i)

@@ -39,6 +39,11 @@ pub record Lining (n : ℕ) (s : State) (best : Option Cleared) (k : ℕ) : Type
   pub remembers : Remembered n s best
   pub whole : best_line n s (line_of best) k (n - k) ≡ best_line n s None 0 n
 
+pub lining_none : (n : ℕ) (s : State) → Lining n s None 0
+lining_none n s =
+    let e : n - 0 ≡ n = omega arith in
+    record { remembers = tt; whole = ap (λ (k : ℕ). best_line n s None 0 k) e }
+
 module _ (n : ℕ) (s : State) (best : Option Cleared) (k : ℕ) (h : Lining n s best k) (lt : k < n) (best'' : Option Cleared) where
   more : line_of best'' ≡ cond (not (solved pairs n s k)) (choose_line n s (line_of best) k) (line_of best) → Remembered n s best'' → Lining n s best'' (k + 1)
   unfolding best_line

@@ -24,6 +24,11 @@ pub record Pivoting (n : ℕ) (s : State) (d : ℕ) (best : Option Choice) (i : 
   pub fits : Fits n s best
   pub whole : best_of s (gate_of best) (pivots pairs s d i (n - i)) ≡ best_of s None (pivots pairs s d 0 n)
 
+pub pivoting_none : (n : ℕ) (s : State) (d : ℕ) → Pivoting n s d None 0
+pivoting_none n s d =
+    let e : n - 0 ≡ n = omega arith in
+    record { fits = tt; whole = ap (λ (k : ℕ). best_of s None (pivots pairs s d 0 k)) e }
+
 pub pivoting_more : (n : ℕ) (s : State) (d : ℕ) (best : Option Choice) (i : ℕ) (best' : Option Choice) → Pivoting n s d best i → i < n → Fits n s best'
     → gate_of best' ≡ after s d (gate_of best) i → Pivoting n s d best' (i + 1)
 unfolding pivots

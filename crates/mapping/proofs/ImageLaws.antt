@@ -93,6 +93,9 @@ module _ (n : ℕ) (g : Mct) (legal : mct_legal n g ≡ true) where
   flip_below : 2 ^ g.target < 2 ^ n
   flip_below = pow-lt (legal_says n g legal).target
 
+  pub fixed_below : bit_or g.controls (2 ^ g.target) < 2 ^ n
+  fixed_below = or_lt n g.controls (2 ^ g.target) (legal_says n g legal).controls flip_below
+
   -- a word with all controls has its pair among those with the fixed lines
   pair_covers : (x : ℕ) → bit_and x g.controls ≡ g.controls → bit_and (bit_or x (2 ^ g.target)) (bit_or g.controls (2 ^ g.target)) ≡ bit_or g.controls (2 ^ g.target)
   pair_covers x e =

@@ -164,3 +164,7 @@ run_ran t t' b b' apart took identity =
       identity = identity;
       local = plan_local;
     }
+
+-- images that agree on words differ together
+pub apart_same : (n : ℕ) (f h : ℕ → ℕ) → Same n f h → Apart (2 ^ n) h → Apart (2 ^ n) f
+apart_same n f h same apart x y l k e = apart x y l k (sym (same x (omega arith)) ∙ e ∙ same y k)

@@ -1,3 +1,4 @@
 pub mod Counting
 pub mod Images
 pub mod Clashes
+pub mod Sizes
