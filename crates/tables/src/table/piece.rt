@@ -1,5 +1,5 @@
 // A table as a piece that takes gates of any kind.
-ghost use Rattle.std.specs.Prelude.{◌≡◌, ◌<◌, length, Decides, EachIndex, MatchOption, ◌≢◌, slice_index};
+ghost use Rattle.std.specs.Prelude.{◌≡◌, ℕ, ◌^◌, ◌<◌, ◌≤◌, length, Decides, EachIndex, MatchOption, ◌≢◌, slice_index};
 ghost use Rattle.words.specs.Maps.{Identity, Clash};
 ghost use Rattle.gates.specs.Refusals.{image};
 ghost use Rattle.tables.specs.Tables.{table_meaning};
@@ -41,14 +41,28 @@ impl Table {
     pub fn clash(&self) -> Option<(u64, u64)>
         ensures { Clash self.now.lines (table_meaning self.now).map result }
     {
-        let mut words = [None; 256];
+        // Which images the words so far have.
+        let mut seen = [false; 256];
         for (b, image) in self.images().iter().enumerate() {
-            // The word so far that has this image.
-            if let Some(a) = words[*image as usize].replace(b as u8) {
+            if seen[*image as usize] {
+                let a = self.first_word(*image);
                 return Some((a as u64, b as u64));
             }
+            seen[*image as usize] = true;
         }
         None
+    }
+
+    // The first word of this image, which some word has.
+    fn first_word(&self, image: u8) -> usize
+        requires { (x : ℕ) × (x < 2 ^ self.now.lines) × ((table_meaning self.now).map x ≡ image) }
+        ensures is { (table_meaning self.now).map result ≡ image }
+        ensures first { (x : ℕ) → x < 2 ^ self.now.lines → (table_meaning self.now).map x ≡ image → result ≤ x }
+    {
+        self.images()
+            .iter()
+            .position(|other| *other == image)
+            .unwrap()
     }
 }
 
