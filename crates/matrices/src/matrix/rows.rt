@@ -4,7 +4,7 @@ ghost use Rattle.words.specs.Words.{has, parity, unit};
 ghost use Rattle.matrices.specs.Matrices.{add_column};
 
 use gates::cnot::Cnot;
-use words::{flipped, has_bit, unit};
+use words::{flipped, has_bit};
 
 // 1 where a row and a word share an odd number of ones, and 0 where they share an even number.
 pub(super) fn shared(row: u64, word: u64) -> u64
@@ -14,14 +14,18 @@ pub(super) fn shared(row: u64, word: u64) -> u64
 }
 
 // Whether the rows are the unit rows.
+#[tactic(auto, using(crate::proofs::UnitRows::shifted))]
 pub(super) fn are_units(rows: &[u64]) -> bool
     requires { length rows.now ≤ 64 }
     ensures { IsTrue result ↔ EachIndex rows.now (λ k. slice_index rows.now k ≡ unit k) }
 {
-    for (line, row) in rows.iter().enumerate() {
-        if *row != unit(line as u8) {
+    // The unit word of the next line, or 0 past line 63.
+    let mut next = 1;
+    for row in rows {
+        if *row != next {
             return false;
         }
+        next <<= 1;
     }
     true
 }

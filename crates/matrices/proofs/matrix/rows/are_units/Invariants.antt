@@ -3,5 +3,5 @@ use Rattle.words.specs.Words.{unit}
 use Rattle.matrices.proofs.matrix.rows.are_units.Given as goal
 
 -- the rows so far are unit rows
-abbrev pub invariant-loop-line : goal.invariant-loop-line
-invariant-loop-line l = (k : ℕ) → k < l.line → get_or l.rows k 0 ≡ unit k
+abbrev pub invariant-loop-row : goal.invariant-loop-row
+invariant-loop-row l = record { units : (k : ℕ) → k < l.row-index → get_or l.rows k 0 ≡ unit k; next : l.next ≡ unit l.row-index }
