@@ -65,7 +65,8 @@ pub(crate) fn take_all<G: Gate, P: Piece<G>>(piece: &mut P, book: &mut Book<G>, 
     }
 }
 
-// Feeds the gates of a book in circuit order. They are legal, and the taker has a place for each.
+// Feeds the gates of a book in circuit order. They are legal, and the taker has a place for each. By position, so that the step
+// that finds a gate stands in a function of its own.
 pub(crate) fn feed_circuit<G: Gate, T: Taker<G>>(book: &Book<G>, taker: &mut T)
     requires legal { sound G.Gate.kind (T.Taker.meaning taker.old).lines (ends book.now) ≡ true }
     requires room { held (ends book.now) ≤ (T.Taker.meaning taker.old).free }

@@ -19,7 +19,8 @@ pub fn shorten<G: Gate, T: Taker<G>>(gates: &[G], taker: T) -> (T, Result<(), Re
     (finish(canceller), answer)
 }
 
-// Feeds the gates in order, all of them or none. A gate that is then held can be sent below.
+// Feeds the gates in order, all of them or none. A gate that is then held can be sent below: `feed` says nothing of gates held
+// back, so this is a function of its own.
 #[tactic(auto, using(crate::proofs::Feeding::next_legal, crate::proofs::Feeding::next_fits, crate::proofs::Feeding::fed_more, std::proofs::lemmas::List::take_all))]
 fn cancel_all<G: Gate, T: Taker<G>>(
     gates: &[G],
