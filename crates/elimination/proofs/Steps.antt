@@ -82,6 +82,11 @@ pub record Doing (f : ℕ → ℕ → Step) (k n : ℕ) (begun now : Found) (i :
   pub rest : rising f i (n - i) (work_of now) ≡ rising f 0 n (work_of begun)
 
 module _ (f : ℕ → ℕ → Step) (k n : ℕ) (begun : Found) where
+  pub doing_none : begun.pair.lines ≡ n → Doing f k n begun begun 0
+  doing_none e =
+      let z : n - 0 ≡ n = omega arith in
+      record { lines = e; few = omega arith; rest = ap (λ (j : ℕ). rising f 0 j (work_of begun)) z }
+
   pub doing_more : (now : Found) (i : ℕ) → Doing f k n begun now i → i < n → (next : Found) → Done k (f i (n - (i + 1))) now next → Doing f k n begun next (i + 1)
   unfolding rising
   doing_more now i h lt next done =

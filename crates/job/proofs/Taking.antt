@@ -9,7 +9,7 @@ use Rattle.books.specs.declared.Book.{Book}
 use Rattle.books.specs.Ends.{Ends, emptied, found, strike, last, front}
 use Rattle.books.specs.Books.{ends, Kept}
 use Rattle.books.proofs.EndLaws.{ends_same, last_split}
-use Rattle.books.proofs.KeptLaws.{kept_more}
+use Rattle.books.proofs.KeptLaws.{kept_none, kept_more}
 use Rattle.pieces.specs.Meanings.{Meaning, moved, Moved}
 use Rattle.pieces.specs.Jobs.{whole, shown}
 use Rattle.job.specs.Paper.{taken}
@@ -44,6 +44,9 @@ pub record TakenBack {G : Type 0} (K : Kind G) (e : End) (m : Meaning) (b : Book
   pub same_places : Kept b b'
 
 module _ {G : Type 0} (K : Kind G) (e : End) (m : Meaning) (b : Book G) where
+  pub none_taken : TakenBack K e m b m b
+  none_taken = record { same_lines = refl; rest = refl; sent = λ x h. refl; same_places = kept_none b }
+
   module _ (m₁ : Meaning) (b₁ : Book G) (so_far : TakenBack K e m b m₁ b₁) where
     pub one_taken : Lawful K → (g : G) (m₂ : Meaning) (b₂ : Book G) → Some g ≡ last (found e (ends b₁)) → ends b₂ ≡ strike e (ends b₁) → Kept b₁ b₂ →
         Moved K e g m₁ m₂ → TakenBack K e m b m₂ b₂

@@ -1,11 +1,14 @@
--- Feeding one gate more.
-use Rattle.std.proofs.Common.{◌≡◌, ℕ, ◌+◌, ◌^◌, ◌<◌, ◌≤◌, true, List, [], ◌∷◌, ◌++◌, length, get_or, take, sym, ap, ◌∙◌, subst, arith, length-append, length-take}
+-- Feeding no gate, and one gate more.
+use Rattle.std.proofs.Common.{◌≡◌, ℕ, ◌+◌, ◌^◌, ◌<◌, ◌≤◌, true, List, [], ◌∷◌, ◌++◌, length, get_or, take, sym, refl, ap, ◌∙◌, subst, arith, length-append, length-take}
 use Rattle.gates.specs.Gates.{Kind}
 use Rattle.gates.specs.Circuits.{all_legal}
 use Rattle.gates.specs.CircuitLaws.{through_append, take_next, legal_at}
 use Rattle.takers.specs.Meanings.{Meaning, Fed, FedAll}
 
 module _ {G : Type 0} (K : Kind G) (m : Meaning) where
+  pub fed_none : FedAll K m [] m
+  fed_none = record { same_lines = refl; follows = λ w h. refl; falls = omega arith }
+
   pub fed_push : (gs : List G) (a : Meaning) (g : G) (b : Meaning) → FedAll K m gs a → Fed K a g b → FedAll K m (gs ++ g ∷ []) b
   fed_push gs a g b all one = record {
     same_lines = one.same_lines ∙ all.same_lines;
